@@ -1,0 +1,2 @@
+// The one bounded list, over memory that the caller hands in.
+pub mod list;

@@ -1,0 +1,9 @@
+pub mod Buffers
+pub mod Ends
+pub mod Makes
+pub mod Places
+pub mod Ranges
+pub mod SettingTexts
+pub mod Spelled
+pub mod Tells
+pub mod Trims
