@@ -1,0 +1,48 @@
+// What the program is asked to do.
+use std::env;
+use std::io;
+
+// The label kinds by name.
+#[derive(Clone, Copy)]
+pub enum KindName {
+    Text,
+    Setting,
+}
+
+#[derive(Clone, Copy)]
+pub enum Command {
+    // sort out a list of label texts
+    Labels(KindName),
+}
+
+fn kind_name(word: &str) -> Option<KindName> {
+    match word {
+        "text" => Some(KindName::Text),
+        "setting" => Some(KindName::Setting),
+        _ => None,
+    }
+}
+
+// The command that two words ask for.
+fn asked(verb: &str, kind: &str) -> Option<Command> {
+    match verb {
+        "labels" => Some(Command::Labels(kind_name(kind)?)),
+        _ => None,
+    }
+}
+
+// The command of the program's arguments, or none where they are wrong.
+pub fn from_arguments(rt: &LibcRuntime) -> io::Result<Option<Command>> {
+    let mut arguments = env::args(rt)?;
+    let _program = arguments.next();
+    let Some(verb) = arguments.next() else {
+        return Ok(None);
+    };
+    let Some(kind) = arguments.next() else {
+        return Ok(None);
+    };
+    if arguments.next().is_some() {
+        return Ok(None);
+    }
+    Ok(asked(verb.as_str(), kind.as_str()))
+}
