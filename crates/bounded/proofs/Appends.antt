@@ -12,17 +12,20 @@ use Rattle.std.proofs.shelf.Tests.{lt-ltb, cond-true}
 use Rattle.bounded.specs.declared.list.Bounded.{Bounded}
 use Rattle.bounded.specs.Lists.{held, spare, room, Appended}
 
+-- where the list is shorter than its room, what an append says of either case is what it says of the first
+pub with-room : {X : Type 0} (count room : ℕ) (more less : X) {said : Bool} {got : X} → said ≡ ltb count room → got ≡ cond said more less → count < room → got ≡ more
+with-room count room more less {said} answer either lt = either ∙ cond-true said more less (answer ∙ lt-ltb count room lt)
+
 -- nothing is appended to a list by leaving it
 pub appended-none : {T : Type 0} (b : Bounded T) → Appended b b []
 appended-none b = record { items = sym (append-nil (held b)); rest = refl; size = refl; lender = refl }
 
 -- what one append promises, where the list is shorter than its room
 pub appended-one : {T : Type 0} (b c : Bounded T) (x : T) {said : Bool} → said ≡ ltb (length (held b)) (room b) → held c ≡ cond said (held b ++ x ∷ []) (held b) → spare c ≡ cond said (drop 1 (spare b)) (spare b) → room c ≡ room b → name (c .slots) ≡ name (b .slots) → length (held b) < room b → Appended b c (x ∷ [])
-appended-one b c x {said} answer items rest size lender under =
-    let yes-said = answer ∙ lt-ltb (length (held b)) (room b) under in
+appended-one b c x answer items rest size lender under =
     record {
-      items = items ∙ cond-true said _ _ yes-said;
-      rest = rest ∙ cond-true said _ _ yes-said;
+      items = with-room (length (held b)) (room b) _ _ answer items under;
+      rest = with-room (length (held b)) (room b) _ _ answer rest under;
       size = size;
       lender = lender;
     }

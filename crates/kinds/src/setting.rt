@@ -2,6 +2,8 @@
 ghost use mathlib.Core.Path.{_≡_};
 ghost use mathlib.Core.List.{_∷_};
 ghost use Prim.Native.Nat.{ℕ, _+_, _≤_};
+ghost use lib.Dec.{eqb};
+ghost use lib.Ieee.{toBits, binary32};
 ghost use lib.ListN.{length};
 ghost use Rattle.std.specs.Orderings.{Decides};
 ghost use Rattle.bounded.specs.Lists.{held, room, Appended};
@@ -65,6 +67,13 @@ impl SettingLabel {
     }
 }
 
+// Whether two floats have one bit pattern, where all that are no numbers have one.
+fn one_pattern(x: f32, y: f32) -> bool
+    ensures { λ r. ⌜ r ≡ eqb (toBits binary32 x) (toBits binary32 y) ⌝ }
+{
+    f32_to_bits_with_nan(x) == f32_to_bits_with_nan(y)
+}
+
 pub impl Label for SettingLabel as SettingKind {
     ghost Meaning = { Meant };
 
@@ -74,10 +83,8 @@ pub impl Label for SettingLabel as SettingKind {
 
     fn same(&self, other: &SettingLabel) -> bool {
         match (self.setting, other.setting) {
-            (Setting::Seconds(x), Setting::Seconds(y)) => f32_to_bits_with_nan(x)
-                == f32_to_bits_with_nan(y),
-            (Setting::Metres(x), Setting::Metres(y)) => f32_to_bits_with_nan(x)
-                == f32_to_bits_with_nan(y),
+            (Setting::Seconds(x), Setting::Seconds(y)) => one_pattern(x, y),
+            (Setting::Metres(x), Setting::Metres(y)) => one_pattern(x, y),
             (Setting::Count(m), Setting::Count(n)) => m == n,
             (Setting::Mark, Setting::Mark) => true,
             _ => false,
