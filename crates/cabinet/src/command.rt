@@ -13,6 +13,8 @@ pub enum KindName {
 pub enum Command {
     // sort out a list of label texts
     Labels(KindName),
+    // say whether an expression is admitted
+    Expression,
 }
 
 fn kind_name(word: &str) -> Option<KindName> {
@@ -23,10 +25,11 @@ fn kind_name(word: &str) -> Option<KindName> {
     }
 }
 
-// The command that two words ask for.
+// The command that a verb and its kind ask for; a verb without a kind has the empty one.
 fn asked(verb: &str, kind: &str) -> Option<Command> {
     match verb {
         "labels" => Some(Command::Labels(kind_name(kind)?)),
+        "expression" if kind.is_empty() => Some(Command::Expression),
         _ => None,
     }
 }
@@ -35,12 +38,10 @@ fn asked(verb: &str, kind: &str) -> Option<Command> {
 pub fn from_arguments(rt: &LibcRuntime) -> io::Result<Option<Command>> {
     let mut arguments = env::args(rt)?;
     let _program = arguments.next();
-    let Some(verb) = arguments.next() else {
-        return Ok(None);
-    };
-    let Some(kind) = arguments.next() else {
-        return Ok(None);
-    };
+    let none = String::new(rt.alloc());
+    let verb = arguments.next().unwrap_or(none);
+    let no_kind = String::new(rt.alloc());
+    let kind = arguments.next().unwrap_or(no_kind);
     if arguments.next().is_some() {
         return Ok(None);
     }

@@ -1,0 +1,15 @@
+pub mod Admitting
+pub mod Counting
+pub mod Entering
+pub mod Examples
+pub mod Filling
+pub mod Keeping
+pub mod Lawfulness
+pub mod Levelling
+pub mod Lowest
+pub mod Occurring
+pub mod Padding
+pub mod Rising
+pub mod Sets
+pub mod Single
+pub mod Trees

@@ -1,0 +1,11 @@
+use Prim.Native.Nat.{_≤_}
+use native.Mathlib.Omega.{arith}
+use lib.ListN.{length}
+use Rattle.expression.proofs.Trees.{past-outs}
+use Rattle.expression.proofs.expression.Expression.out_set.Needs as need
+
+pub returns-else-place-lt-PLACES : need.returns-else-place-lt-PLACES
+returns-else-place-lt-PLACES c =
+    let x = c .args .self .now in
+    let out : length (x .places) ≤ c .args .place = omega arith in
+    past-outs (x .places) (x .«lower_parts») (c .args .place) out

@@ -1,0 +1,12 @@
+pub mod Admission
+pub mod Admitted
+pub mod Cases
+pub mod Forms
+pub mod Law
+pub mod Listed
+pub mod Markers
+pub mod Parts
+pub mod Raw
+pub mod Refusals
+pub mod Rules
+pub mod Sets
