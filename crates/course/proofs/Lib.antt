@@ -1,0 +1,16 @@
+pub mod Chains
+pub mod Ends
+pub mod Entries
+pub mod Fits
+pub mod Forms
+pub mod Grows
+pub mod HubsIn
+pub mod Loops
+pub mod Maps
+pub mod Openings
+pub mod Ranks
+pub mod Reaching
+pub mod Recurs
+pub mod Runs
+pub mod Slots
+pub mod Walks

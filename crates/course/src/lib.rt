@@ -1,0 +1,21 @@
+// The forward run of an admitted expression over a source, and the course that it leaves.
+mod build;
+pub mod classes;
+pub mod course;
+mod enter;
+pub mod environment;
+mod evaluate;
+mod extent;
+mod hub_table;
+mod hubs;
+mod in_map;
+mod link;
+mod opening;
+mod outs;
+mod reach;
+pub mod readings;
+pub mod run;
+pub mod source;
+pub mod sources;
+mod terms;
+pub mod workspace;

@@ -1,0 +1,13 @@
+pub mod Bounded
+pub mod Bounding
+pub mod Cabinets
+pub mod Everies
+pub mod Growing
+pub mod HubMaking
+pub mod HubsStanding
+pub mod InMaps
+pub mod Labelling
+pub mod Members
+pub mod Reaching
+pub mod Recording
+pub mod Recursing
