@@ -1,0 +1,9 @@
+pub mod Cases
+pub mod Editing
+pub mod Editor
+pub mod Histories
+pub mod Readiness
+pub mod Relabelling
+pub mod RowLabels
+pub mod Simulation
+pub mod Stored
