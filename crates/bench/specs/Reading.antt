@@ -5,11 +5,14 @@
 --   endsOf s          the arrows of the source; none where nothing is opened
 --   rowsOf b          the rows that the bench holds
 --   editsOf rows rs ls  the edits of the rows rs with the labels ls; an edit has the origin of its row
---   draftOf b asked   the draft: the edits by the rows that the bench holds and the labels asked
+--   noRow             the row that stands past the end of a list
+--   draftEdits b asked  the edits by the rows that the bench holds and the labels asked
+--   draftOf t es      the draft: the edits es where t tells that one is open
 --   keptOf            changes by their arrows, old labels and new labels
 --   commitAt i n ..   a commit of n changes from change i on: its old labels stand in the history table from i on, its new
 --                     ones from 256 + i on
 --   commitsOf i ns .. the commits of the sizes ns from change i on
+--   labelsOf b ..     the labelling: as many labels as the source has arrows, and as many constants as were opened with
 --   desk b ..         the machine's state that the bench and its tables stand for
 --   short b ..        whether a table is shorter than the bench needs
 --   ready s o         the first checks of a call: a table is too short, nothing is opened
@@ -60,7 +63,6 @@ endsOf (Some s) = graphOf s .arrows
 abbrev pub rowsOf : Bench → List Row
 rowsOf b = vec-items (b .rows .rows)
 
--- the row that stands past the end of a list
 abbrev pub noRow : Row
 noRow = record { node = 0; head = 0; origin = Blank; place = 0; frame = 0 }
 
