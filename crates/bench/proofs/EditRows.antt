@@ -1,7 +1,7 @@
 -- Edits stored as rows and labels: one removed, replaced or put in. Assumes nothing.
-use Rattle.std.proofs.Common.{◌≡◌, ℕ, zero, suc, ◌+◌, ◌-◌, ◌<◌, ◌≤◌, Bool, true, false, cond, not, ◌&&◌, eqb, ltb, leb, ◌≢◌, ◌⊎◌, List, [], ◌∷◌, ◌++◌, length, get_or, take, drop, set, sym, refl, ap, ◌∙◌, inl, inr, ⊎_elim, append_assoc, arith}
+use Rattle.std.proofs.Common.{◌≡◌, ℕ, zero, suc, ◌+◌, ◌-◌, ◌<◌, ◌≤◌, Bool, true, false, cond, ◌&&◌, eqb, ltb, ◌≢◌, ◌⊎◌, List, [], ◌∷◌, ◌++◌, length, get_or, take, drop, set, sym, refl, ap, ◌∙◌, inl, inr, ⊎_elim, append_assoc, arith}
 use Rattle.std.proofs.lemmas.Bool.{cases_lt, eq-eqb, ne_eqb, eqb-true, both_ways, and_parts, and_cases, lt-ltb, le-ltb, ltb-true, ltb-false, cond-true, cond-false}
-use Rattle.std.proofs.lemmas.List.{length-set, length-take, get_or-take, get_or-drop, take_all, drop_all, append-nil, same_lists, take_more_set, drop_more, drop-set-lt, drop-drop, take-append-drop, take-take}
+use Rattle.std.proofs.lemmas.List.{length-set, length-take, get_or-take, get_or-drop, drop_all, same_lists, take_more_set, drop_more, drop-set-lt, drop-drop, take-take}
 use Rattle.std.proofs.lemmas.List.Edits.{length-remove, get_or-remove_below, get_or-remove_above}
 use Rattle.rows.specs.declared.row.Row.{Row}
 use Rattle.bench.specs.Model.{insert, remove, edited}

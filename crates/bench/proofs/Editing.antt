@@ -1,5 +1,5 @@
 -- Trial refuses exactly where no rival labelling serves. Assumes nothing.
-use Rattle.std.proofs.Common.{◌≡◌, ℕ, zero, suc, ◌+◌, Bool, true, false, cond, not, eqb, ◌⊎◌, ◌↔◌, List, [], ◌∷◌, ◌++◌, length, Some, None, Ok, Err, Option, Result, sym, refl, ap, ◌∙◌, subst, inl, inr, append_assoc, append-nil, arith}
+use Rattle.std.proofs.Common.{◌≡◌, ℕ, suc, Bool, true, false, cond, not, ◌⊎◌, ◌↔◌, List, [], ◌∷◌, ◌++◌, length, Some, None, Ok, Err, Option, Result, sym, refl, ap, ◌∙◌, subst, inl, inr, append_assoc, append-nil}
 use Rattle.std.specs.List.{slice_get}
 use Rattle.std.proofs.lemmas.Bool.{eqb-true, eq-eqb, and_parts, and_cases, not-true, not-false, both_ways}
 use Rattle.course.specs.declared.course.Origin.{Origin}
@@ -17,9 +17,9 @@ use Rattle.laws.specs.Recorded.{Holds}
 use Rattle.laws.proofs.Everies.{every_to}
 use Rattle.laws.proofs.Recording.{recorded, same_course}
 use Rattle.bench.specs.declared.refusal.Refusal.{Refusal}
-use Rattle.bench.specs.declared.refusal.Refusal.TheVariants.{NoEdit, ConstantRow, Clashes, Turns, FullHistory}
+use Rattle.bench.specs.declared.refusal.Refusal.TheVariants.{ConstantRow, Clashes, Turns, FullHistory}
 use Rattle.bench.specs.declared.request.Edit.{Edit}
-use Rattle.bench.specs.Drafts.{Labelling, label_in, relabel, compare_by, is_source, is_constant, same_arrow, same_outcome, turns, first, asked_or, put, changes, crowds, is_empty, clash_of, turn_of, refuse_where, otherwise, clash_for, clashing, verdict}
+use Rattle.bench.specs.Drafts.{Labelling, label_in, compare_by, is_source, is_constant, same_arrow, same_outcome, turns, first, asked_or, put, changes, crowds, clash_of, turn_of, refuse_where, otherwise, clash_for, clashing, verdict}
 use Rattle.bench.specs.Model.{Opening, shows}
 use Rattle.bench.specs.Law.{Exact, meant, course_of, Rival, Serves, NoneServes, unservable}
 use Rattle.bench.proofs.Relabelling.{no_path, cond_none, cond_some, in_either, in_left, in_right, renewed, renewed_same, relabelled, relabel_length}

@@ -4,7 +4,6 @@ use Rattle.std.specs.List.{slice_get}
 use Rattle.course.specs.declared.course.Origin.{Origin}
 use Rattle.course.specs.declared.course.Origin.TheVariants.{Blank, Source, Constant}
 use Rattle.course.specs.Reach.{In}
-use Rattle.rows.specs.declared.row.Row.{Row}
 use Rattle.bench.specs.declared.refusal.Refusal.{Refusal}
 use Rattle.bench.specs.declared.refusal.Refusal.TheVariants.{NothingOpened}
 use Rattle.bench.specs.declared.request.Edit.{Edit}
@@ -12,11 +11,10 @@ use Rattle.bench.specs.declared.request.Request.TheVariants as ask
 use Rattle.bench.specs.declared.request.Answer.{Answer}
 use Rattle.bench.specs.declared.request.Answer.TheVariants as answer
 use Rattle.bench.specs.Drafts.{Labelling, label_in, is_source, Change, first, asked_or, put, changes}
-use Rattle.bench.specs.Model.{Opening, rows_shown, Call, State, Response, commits, under, present, refuse, fits, settled, judge, decide, view, act, start, next, reply, after}
-use Rattle.bench.specs.Model
+use Rattle.bench.specs.Model.{Opening, Call, State, Response, commits, under, refuse, fits, settled, judge, decide, view, act, start, next, reply, after}
 use Rattle.bench.specs.Machine.{Desk, seen, perform, step, run}
 use Rattle.bench.specs.Law.{Exact, meant, Opens, opened, asks}
-use Rattle.bench.specs.Editor.{row_read, Untouched, Shown, Again, EmptyCommit, TakenCommit, UndoRedo, RedoUndo}
+use Rattle.bench.specs.Editor.{row_read, Shown, Again, EmptyCommit, TakenCommit, UndoRedo, RedoUndo}
 use Rattle.bench.proofs.Editing.{first_some, source_is, put_shows}
 use Rattle.bench.proofs.Histories.{Holding, Drafted, Rowed, Takes, takes_back, start_holds, next_holds, row_label, committed, passed}
 use Rattle.bench.proofs.Relabelling.{renewed, renewed_same, relabelled}

@@ -1,15 +1,14 @@
 -- After any calls the present labels give the opening's course, and the edits of a draft have labels that they do not ask.
 -- Assumes nothing.
-use Rattle.std.proofs.Common.{◌≡◌, ℕ, zero, suc, ◌+◌, Bool, true, false, cond, not, ◌&&◌, eqb, ltb, leb, ◌⊎◌, List, [], ◌∷◌, ◌++◌, length, Some, None, Ok, Err, Option, Result, sym, refl, ap, ◌∙◌, subst, ap₂, inl, inr, arith}
+use Rattle.std.proofs.Common.{◌≡◌, ℕ, Bool, true, false, cond, not, ◌&&◌, eqb, ltb, leb, ◌⊎◌, List, [], ◌∷◌, ◌++◌, length, Some, None, Ok, Err, Option, Result, sym, refl, ap, ◌∙◌, subst, ap₂, inl, inr, arith}
 use Rattle.std.specs.List.{slice_get}
 use Rattle.std.proofs.lemmas.Bool.{eqb-true, eq-eqb, both_ways, cond_both, cond-true, cond-false}
 use Rattle.course.specs.declared.course.Origin.{Origin}
 use Rattle.course.specs.declared.course.Origin.TheVariants.{Blank, Source, Constant}
 use Rattle.course.specs.declared.course.Comparison.{Comparison}
-use Rattle.course.specs.Course.{Course, done}
+use Rattle.course.specs.Course.{done}
 use Rattle.course.specs.Reach.{In}
 use Rattle.course.specs.Forward.{forward}
-use Rattle.laws.specs.Every.{Every}
 use Rattle.laws.specs.Labelling.{same_labels}
 use Rattle.laws.specs.Recorded.{Holds}
 use Rattle.laws.proofs.Everies.{every_to}

@@ -1,13 +1,12 @@
 -- Every row of a finished run has a label. Assumes nothing.
-use Rattle.std.proofs.Common.{◌≡◌, ℕ, zero, suc, ◌<◌, Bool, true, false, cond, List, [], ◌∷◌, map, length, Some, None, filter, Option, sym, refl, ap, ◌∙◌, subst, inl, inr, arith}
-use Rattle.std.specs.List.{slice_get, flat_map}
+use Rattle.std.proofs.Common.{◌≡◌, ℕ, Bool, true, false, List, length, Some, filter, refl, ap, ◌∙◌, arith}
+use Rattle.std.specs.List.{slice_get}
 use Rattle.std.proofs.lemmas.Bool.{and_parts, not-true, both_ways}
 use Rattle.course.specs.declared.course.Arrow.{Arrow}
 use Rattle.course.specs.declared.course.Origin.{Origin}
 use Rattle.course.specs.declared.course.Origin.TheVariants.{Blank, Source, Constant}
-use Rattle.course.specs.Course.{is_blank_origin, Course, done}
-use Rattle.course.specs.Reach.{In, among}
-use Rattle.course.specs.Forward.{forward}
+use Rattle.course.specs.Course.{is_blank_origin}
+use Rattle.course.specs.Reach.{among}
 use Rattle.laws.specs.Every.{Every}
 use Rattle.laws.specs.Bounds.{Known, Labelled, ArrowIn}
 use Rattle.laws.proofs.Bounded.{bounds}

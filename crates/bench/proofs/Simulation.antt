@@ -1,20 +1,17 @@
 -- The machine follows the model, so the law holds of its runs. Assumes nothing.
 use Rattle.std.proofs.Common.{◌≡◌, ℕ, zero, suc, ◌+◌, Bool, true, false, cond, eqb, ◌↔◌, List, [], ◌∷◌, ◌++◌, map, length, get_or, take, drop, set, Some, None, Ok, Err, Option, Result, sym, refl, ap, ◌∙◌, subst, append_assoc, append-nil, arith}
 use Rattle.std.specs.List.{slice_get}
-use Rattle.std.proofs.lemmas.Bool.{eqb-true, eqb-false, eq-eqb, both_ways}
+use Rattle.std.proofs.lemmas.Bool.{eqb-true, eq-eqb, both_ways}
 use Rattle.std.proofs.lemmas.List.{length-append, length-map, length-set, take_at}
-use Rattle.course.specs.Course.{Run, done}
-use Rattle.course.specs.Forward.{forward}
+use Rattle.course.specs.Course.{Run}
 use Rattle.rows.specs.declared.row.Row.{Row}
 use Rattle.bench.specs.declared.refusal.Refusal.{Refusal}
 use Rattle.bench.specs.declared.refusal.Refusal.TheVariants.{NoSuchEntry, SlipUnfit}
 use Rattle.bench.specs.declared.request.Edit.{Edit}
-use Rattle.bench.specs.declared.request.Request.{Request}
 use Rattle.bench.specs.declared.request.Request.TheVariants as ask
 use Rattle.bench.specs.declared.request.Answer.{Answer}
 use Rattle.bench.specs.declared.request.Answer.TheVariants as answer
-use Rattle.bench.specs.Drafts.{Labelling, label_in, relabel, compare_by, Change}
-use Rattle.bench.specs.Model
+use Rattle.bench.specs.Drafts.{Labelling, label_in, Change}
 use Rattle.bench.specs.Model.{Opening, rows_shown, Call, State, View, Effect, stays, drafts, commits, undoes, redoes, Response, given, latest, under, present, refuse, says, found, fits, settled, tried, size_of, counted, judge, decide, view, act, undone, redone, start, next, reply, after_from, after, replies}
 use Rattle.bench.specs.Machine.{Kept, Desk, written, arrow_of, old_of, new_of, label_or, keep_one, keep, put_back, put_in, total, size_at, size_before, seen, perform, step, run, answers}
 use Rattle.bench.specs.Law.{Exact, Opens, opened, asks, rows_in, NoneServes, turned_down, Upheld, RunLaw}

@@ -1,12 +1,10 @@
 -- The lists that a bench stores, read by number: how long its draft and its history are, and what they hold. Assumes nothing.
-use Rattle.std.proofs.Common.{◌≡◌, ℕ, zero, suc, ◌+◌, ◌-◌, ◌≤◌, Bool, true, false, cond, ◌||◌, ltb, List, [], ◌∷◌, length, get_or, take, drop, Some, None, Ok, Err, Option, sym, refl, ap, ◌∙◌, arith}
+use Rattle.std.proofs.Common.{◌≡◌, ℕ, zero, suc, ◌+◌, ◌≤◌, Bool, true, false, ltb, List, [], ◌∷◌, length, get_or, take, drop, Some, None, Ok, sym, refl, ap, ◌∙◌, arith}
 use Rattle.std.specs.List.{slice_get}
-use Rattle.std.proofs.lemmas.Bool.{or_parts, ltb-false, both_ways}
-use Rattle.std.proofs.lemmas.List.{length-take}
+use Rattle.std.proofs.lemmas.Bool.{or_parts, ltb-false}
 use Rattle.rows.specs.declared.row.Row.{Row}
 use Rattle.bench.specs.declared.bench.Bench.{Bench}
-use Rattle.bench.specs.declared.request.Edit.{Edit}
-use Rattle.bench.specs.Reading.{ends_of, is_opened, short, ready, no_row, edits_of, draft_edits, commits_of}
+use Rattle.bench.specs.Reading.{ends_of, short, ready, no_row, edits_of, draft_edits, commits_of}
 use Rattle.bench.proofs.Relabelling.{no_path}
 
 -- the tables of a call that is ready are long enough

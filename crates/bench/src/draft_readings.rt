@@ -46,7 +46,7 @@ impl Bench {
         history: &[L],
     ) -> Result<Option<usize>, Refusal>
         ensures { (desk self.now labels.now constants.now asked.now history.now, said (λ x. answer.Draft x) result)
-            ≡ step alike (handed (short self.now labels.now constants.now asked.now history.now) 0 ask.Draft)
+            ≡ step L.alike (handed (short self.now labels.now constants.now asked.now history.now) 0 ask.Draft)
             (desk self.now labels.now constants.now asked.now history.now) }
     {
         self.ready(labels, constants, asked, history)?;
@@ -67,7 +67,7 @@ impl Bench {
         history: &[L],
     ) -> Result<Option<Edit<L>>, Refusal>
         ensures { (desk self.now labels.now constants.now asked.now history.now, said (λ x. answer.Edit x) result)
-            ≡ step alike (handed (short self.now labels.now constants.now asked.now history.now) 0 (ask.Edit index))
+            ≡ step L.alike (handed (short self.now labels.now constants.now asked.now history.now) 0 (ask.Edit index))
             (desk self.now labels.now constants.now asked.now history.now) }
     {
         self.ready(labels, constants, asked, history)?;
@@ -87,7 +87,7 @@ impl Bench {
         history: &[L],
     ) -> Result<Commits, Refusal>
         ensures { (desk self.now labels.now constants.now asked.now history.now, said (λ x. answer.History x) result)
-            ≡ step alike (handed (short self.now labels.now constants.now asked.now history.now) 0 ask.History)
+            ≡ step L.alike (handed (short self.now labels.now constants.now asked.now history.now) 0 ask.History)
             (desk self.now labels.now constants.now asked.now history.now) }
     {
         self.ready(labels, constants, asked, history)?;

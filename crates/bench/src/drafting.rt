@@ -31,7 +31,7 @@ impl Bench {
         history: &[L],
     ) -> Result<Slip, Refusal>
         ensures { (desk self.new labels.now constants.now asked.now history.now, begun result)
-            ≡ step alike (handed (short self.old labels.now constants.now asked.now history.now) 0 ask.Begin)
+            ≡ step L.alike (handed (short self.old labels.now constants.now asked.now history.now) 0 ask.Begin)
             (desk self.old labels.now constants.now asked.now history.now) }
     {
         self.ready(labels, constants, asked, history)?;
@@ -54,7 +54,7 @@ impl Bench {
         history: &[L],
     ) -> Abandoned
         ensures { (desk self.new labels.now constants.now asked.now history.now, dropped result)
-            ≡ step alike (handed (short self.old labels.now constants.now asked.now history.now) slip.number ask.Abandon)
+            ≡ step L.alike (handed (short self.old labels.now constants.now asked.now history.now) slip.number ask.Abandon)
             (desk self.old labels.now constants.now asked.now history.now) }
     {
         if let Err(refusal) = self.ready(labels, constants, asked, history) {

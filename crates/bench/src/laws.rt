@@ -8,19 +8,19 @@ use kinds::label::Label;
 // Whatever calls follow one another from an opening, with any slips, rows and labels: the present
 // labels, the course and rows, what trial and commit refuse, and every answer are as the rules say.
 fn run_law<L: Label>()
-    ensures { RunLaw alike meaning }
+    ensures { RunLaw L.alike L.meaning }
 {}
 
 // A commit of nothing changes nothing; after a taken commit the view shows exactly what was asked.
 fn editor_law<L: Label>()
-    ensures nothing { EmptyCommit alike meaning }
-    ensures taken { TakenCommit alike meaning }
+    ensures nothing { EmptyCommit L.alike L.meaning }
+    ensures taken { TakenCommit L.alike L.meaning }
 {}
 
 // Undo followed by redo, and redo followed by undo, restore every label.
 fn history_law<L: Label>()
-    ensures undone { UndoRedo alike meaning }
-    ensures redone { RedoUndo alike meaning }
+    ensures undone { UndoRedo L.alike L.meaning }
+    ensures redone { RedoUndo L.alike L.meaning }
 {}
 
 // The worked cases of drafts on two small cabinets.

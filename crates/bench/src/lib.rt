@@ -1,5 +1,7 @@
 // The bench: a source opened under an expression, read row by row, edited by drafts, with a
 // history of commits.
+#![tactic(auto)]
+
 pub mod bench;
 pub mod draft_readings;
 pub mod drafting;

@@ -15,7 +15,7 @@ pub const EDITS: usize = 32;
 
 // Whether there is the label, and it has the other's meaning.
 fn shows<L: Label>(shown: Option<L>, label: &L) -> bool
-    ensures { result ≡ shows_label alike shown label.now }
+    ensures { result ≡ shows_label L.alike shown label.now }
 {
     match shown {
         Some(shown) => shown.same(label),
@@ -37,7 +37,7 @@ impl Bench {
         history: &[L],
     ) -> Result<(), Refusal>
         ensures { (desk self.new labels.now constants.now asked.new history.now, told result)
-            ≡ step alike (handed (short self.old labels.now constants.now asked.old history.now) slip.now.number (ask.Mark row label))
+            ≡ step L.alike (handed (short self.old labels.now constants.now asked.old history.now) slip.now.number (ask.Mark row label))
             (desk self.old labels.now constants.now asked.old history.now) }
     {
         self.ready(labels, constants, asked, history)?;

@@ -59,7 +59,7 @@ impl Bench {
         history: &[L],
     ) -> Result<(Row, L), Refusal>
         ensures { (desk self.now labels.now constants.now asked.now history.now, said (λ x. answer.Row x.0 x.1) result)
-            ≡ step alike (handed (short self.now labels.now constants.now asked.now history.now) 0 (ask.Row index))
+            ≡ step L.alike (handed (short self.now labels.now constants.now asked.now history.now) 0 (ask.Row index))
             (desk self.now labels.now constants.now asked.now history.now) }
     {
         self.ready(labels, constants, asked, history)?;
@@ -77,7 +77,7 @@ impl Bench {
         history: &[L],
     ) -> Result<Node, Refusal>
         ensures { (desk self.now labels.now constants.now asked.now history.now, said (λ x. answer.Node x) result)
-            ≡ step alike (handed (short self.now labels.now constants.now asked.now history.now) 0 (ask.Node number))
+            ≡ step L.alike (handed (short self.now labels.now constants.now asked.now history.now) 0 (ask.Node number))
             (desk self.now labels.now constants.now asked.now history.now) }
     {
         self.ready(labels, constants, asked, history)?;
@@ -94,7 +94,7 @@ impl Bench {
         history: &[L],
     ) -> Result<Arrow, Refusal>
         ensures { (desk self.now labels.now constants.now asked.now history.now, said (λ x. answer.Arrow x) result)
-            ≡ step alike (handed (short self.now labels.now constants.now asked.now history.now) 0 (ask.Arrow number))
+            ≡ step L.alike (handed (short self.now labels.now constants.now asked.now history.now) 0 (ask.Arrow number))
             (desk self.now labels.now constants.now asked.now history.now) }
     {
         self.ready(labels, constants, asked, history)?;
@@ -111,7 +111,7 @@ impl Bench {
         history: &[L],
     ) -> Result<Frame, Refusal>
         ensures { (desk self.now labels.now constants.now asked.now history.now, said (λ x. answer.Frame x) result)
-            ≡ step alike (handed (short self.now labels.now constants.now asked.now history.now) 0 (ask.Frame number))
+            ≡ step L.alike (handed (short self.now labels.now constants.now asked.now history.now) 0 (ask.Frame number))
             (desk self.now labels.now constants.now asked.now history.now) }
     {
         self.ready(labels, constants, asked, history)?;
@@ -128,7 +128,7 @@ impl Bench {
         history: &[L],
     ) -> Result<Comparison, Refusal>
         ensures { (desk self.now labels.now constants.now asked.now history.now, said (λ x. answer.Comparison x) result)
-            ≡ step alike (handed (short self.now labels.now constants.now asked.now history.now) 0 (ask.Comparison number))
+            ≡ step L.alike (handed (short self.now labels.now constants.now asked.now history.now) 0 (ask.Comparison number))
             (desk self.now labels.now constants.now asked.now history.now) }
     {
         self.ready(labels, constants, asked, history)?;
@@ -147,7 +147,7 @@ impl Bench {
         history: &[L],
     ) -> Result<((usize, usize), L), Refusal>
         ensures { (desk self.now labels.now constants.now asked.now history.now, said (λ x. answer.SourceArrow x.0 x.1) result)
-            ≡ step alike (handed (short self.now labels.now constants.now asked.now history.now) 0 (ask.SourceArrow arrow))
+            ≡ step L.alike (handed (short self.now labels.now constants.now asked.now history.now) 0 (ask.SourceArrow arrow))
             (desk self.now labels.now constants.now asked.now history.now) }
     {
         self.ready(labels, constants, asked, history)?;
@@ -163,7 +163,7 @@ impl Bench {
         history: &[L],
     ) -> Result<Counts, Refusal>
         ensures { (desk self.now labels.now constants.now asked.now history.now, said (λ x. answer.Counts x) result)
-            ≡ step alike (handed (short self.now labels.now constants.now asked.now history.now) 0 ask.Counts)
+            ≡ step L.alike (handed (short self.now labels.now constants.now asked.now history.now) 0 ask.Counts)
             (desk self.now labels.now constants.now asked.now history.now) }
     {
         self.ready(labels, constants, asked, history)?;

@@ -1,2 +1,4 @@
 // The one bounded list, over memory that the caller hands in.
+#![tactic(auto)]
+
 pub mod list;

@@ -1,4 +1,6 @@
 // The program of the cabinet editor.
+#![tactic(auto)]
+
 mod admission;
 mod command;
 mod labels;

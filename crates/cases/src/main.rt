@@ -1,4 +1,6 @@
 // Shows small and large cabinets and prints their courses and rows.
+#![tactic(auto)]
+
 use std::env;
 use view::view::View;
 

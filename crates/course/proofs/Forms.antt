@@ -1,5 +1,5 @@
 -- Each form but recursion: what its rule answers, from what its parts and its closing step answer. Assumes nothing.
-use Rattle.std.proofs.Common.{◌≡◌, ℕ, ◌-◌, ◌<◌, ◌≤◌, Bool, List, [], ◌∷◌, ◌++◌, length, get_or, take, drop, IsErrAnd, Ok, Err, Result, sym, refl, ap, ◌∙◌, subst, append_assoc, append-nil, arith, length-append}
+use Rattle.std.proofs.Common.{◌≡◌, ℕ, ◌-◌, ◌≤◌, Bool, List, [], ◌∷◌, ◌++◌, length, get_or, take, drop, IsErrAnd, Ok, Err, Result, sym, refl, ap, ◌∙◌, subst, append_assoc, append-nil, arith, length-append}
 use Rattle.std.proofs.lemmas.List.{take_at, drop_at}
 use Rattle.course.specs.declared.workspace.Workspace.{Workspace}
 use Rattle.course.specs.declared.environment.Out.{Out}
@@ -10,9 +10,9 @@ use Rattle.course.specs.declared.course.Outcome.{Outcome}
 use Rattle.course.specs.declared.course.Outcome.TheVariants.{Same, Other}
 use Rattle.expression.specs.declared.term.Term.{Term}
 use Rattle.expression.specs.Forms.{Tree, t_node, t_edge, t_union, t_mark, t_out, t_zero, t_disjoint, t_append, t_graph, t_if, ins}
-use Rattle.course.specs.Course.{Course, Run, done, full, onward, give, new_node, each, nodes_for}
+use Rattle.course.specs.Course.{Run, done, full, onward, give, new_node, each, nodes_for}
 use Rattle.course.specs.Labels.{Compare}
-use Rattle.course.specs.Forward.{Maps, maps, only, empty, merged, origin_of, labelled, joint, tie, out, compared, chosen, eval}
+use Rattle.course.specs.Forward.{Maps, maps, only, empty, merged, origin_of, labelled, joint, tie, out, compared, eval}
 use Rattle.course.specs.View.{course_of, stack, size, cut, Within, Goes, Makes, Tells, Agrees, Evaluates}
 use Rattle.course.proofs.Maps.{only_within, empty_within, merged_within, wider}
 

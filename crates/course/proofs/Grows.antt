@@ -1,5 +1,5 @@
 -- A run only adds arrows, so those that there are keep their numbers. Assumes nothing.
-use Rattle.std.proofs.Common.{◌≡◌, ℕ, zero, suc, Bool, true, false, cond, ltb, List, [], ◌∷◌, ◌++◌, length, get_or, sym, refl, ap, ◌∙◌, subst, append_assoc, append-nil, arith}
+use Rattle.std.proofs.Common.{◌≡◌, ℕ, suc, Bool, true, false, cond, ltb, List, [], ◌∷◌, ◌++◌, length, get_or, sym, refl, ap, ◌∙◌, subst, append_assoc, append-nil, arith}
 use Rattle.course.specs.declared.course.Node.{Node}
 use Rattle.course.specs.declared.course.Arrow.{Arrow}
 use Rattle.course.specs.declared.course.Frame.{Frame}

@@ -1,13 +1,12 @@
 -- The hubs that are made are as many as their numbers say, so that a hub of the set is a node. Assumes nothing.
-use Rattle.std.proofs.Common.{◌≡◌, ℕ, zero, suc, ◌+◌, ◌*◌, ◌<◌, ◌≤◌, Bool, true, false, cond, ltb, List, [], ◌∷◌, ◌++◌, length, get_or, take, sym, refl, ap, ◌∙◌, subst, ⊎_elim, mul-le-mul_right, add-mul, arith, length-append}
+use Rattle.std.proofs.Common.{◌≡◌, ℕ, zero, suc, ◌+◌, ◌*◌, ◌<◌, ◌≤◌, Bool, true, false, cond, ltb, List, [], ◌∷◌, ◌++◌, length, get_or, take, sym, refl, ap, subst, ⊎_elim, mul-le-mul_right, add-mul, arith, length-append}
 use Rattle.std.proofs.lemmas.Bool.{both_ways, cases_lt}
 use Rattle.std.proofs.lemmas.List.{get_or_past}
 use Rattle.course.specs.declared.course.Node.{Node}
-use Rattle.course.specs.declared.course.Full.{Full}
 use Rattle.course.specs.declared.course.ListName.TheVariants.{Nodes}
-use Rattle.course.specs.Course.{Course, Run, done, full, Step, onward, give, branch, enter_node, each_at}
+use Rattle.course.specs.Course.{Course, Run, done, full, Step, onward, give, enter_node, each_at}
 use Rattle.course.specs.Reach.{trues}
-use Rattle.course.specs.Hubs.{hub, hubs, slots}
+use Rattle.course.specs.Hubs.{hub, hubs}
 use Rattle.course.specs.View.{Within}
 use Rattle.course.proofs.Slots.{slots_at, slots_long}
 use Rattle.course.specs.Forward.{hub_step, hubs_step}

@@ -2,7 +2,7 @@
 use Rattle.std.proofs.Common.{◌≡◌, ℕ, ◌+◌, ◌<◌, ◌≤◌, List, length, get_or, drop, refl, add-one}
 use Rattle.std.proofs.lemmas.List.{drop_more, drop_all}
 use Rattle.course.specs.declared.course.Full.{Full}
-use Rattle.course.specs.Course.{Course, Run, done, full, Step, onward}
+use Rattle.course.specs.Course.{Course, done, full, Step}
 use Rattle.course.specs.Course.{each_at}
 
 pub at_more : {X : Type 0} (step : ℕ → X → Step (Unit {0})) (s : List X) (k : ℕ) (d : X) (c e : Course)

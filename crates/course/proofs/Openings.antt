@@ -1,7 +1,6 @@
 -- The entries of a source, one more at a time. Assumes nothing.
 use Rattle.std.proofs.Common.{◌≡◌, ℕ, zero, suc, ◌+◌, ◌<◌, List, [], ◌∷◌, ◌++◌, length, get_or, take, sym, refl, ap, ◌∙◌, add-one, arith}
 use Rattle.std.proofs.lemmas.List.{take_more}
-use Rattle.course.specs.declared.course.Arrow.{Arrow}
 use Rattle.course.specs.declared.course.Node.{Node}
 use Rattle.course.specs.declared.course.Origin.TheVariants.{Source}
 use Rattle.course.specs.Course.{link}

@@ -1,5 +1,5 @@
 -- Recursion: its body in a frame, its arrows and its whole. Assumes nothing.
-use Rattle.std.proofs.Common.{◌≡◌, ℕ, ◌-◌, ◌<◌, ◌≤◌, Bool, true, false, List, [], ◌++◌, length, get_or, take, drop, IsErrAnd, Ok, Err, vec_items, vec_len, Result, sym, refl, ap, ◌∙◌, subst, append-nil, arith, length-append, length-take}
+use Rattle.std.proofs.Common.{◌≡◌, ℕ, ◌-◌, ◌<◌, ◌≤◌, Bool, true, false, List, [], ◌++◌, length, get_or, take, drop, IsErrAnd, Ok, Err, vec_items, vec_len, Result, sym, refl, ap, ◌∙◌, append-nil, arith, length-append}
 use Rattle.std.proofs.lemmas.List.{take_at, take_all, take-append-le, get_or-take}
 use Rattle.expression.specs.Forms.{Tree, t_recursion, ins}
 use Rattle.course.specs.declared.workspace.Workspace.{Workspace}
@@ -13,7 +13,7 @@ use Rattle.course.specs.Course.{is_blank_origin, Course, Run, done, full, onward
 use Rattle.course.specs.Labels.{Compare}
 use Rattle.course.specs.Reach.{lost, reached}
 use Rattle.course.specs.Forward.{Maps, maps, deeper, tie, link_at, hubs_step, run_body, turn, recur, eval}
-use Rattle.course.specs.Recursions.{members, hubs_at, Numbers, Crosses, body_of, turn_of, Bodies, Turns, Takes}
+use Rattle.course.specs.Recursions.{members, hubs_at, Numbers, Crosses, turn_of, Bodies, Turns, Takes}
 use Rattle.course.specs.View.{course_of, stack, size, Within, Opens, Goes, Evaluates}
 use Rattle.course.proofs.Maps.{goes_exit}
 use Rattle.course.proofs.Forms.{exits, parts}

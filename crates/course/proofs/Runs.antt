@@ -1,5 +1,5 @@
 -- A whole run: its start, and its two ends. Assumes nothing.
-use Rattle.std.proofs.Common.{◌≡◌, ℕ, ◌<◌, ◌≤◌, List, length, get_or, Ok, Err, vec_items, sym, refl, ap, ◌∙◌, subst, arith}
+use Rattle.std.proofs.Common.{◌≡◌, ℕ, List, length, get_or, Ok, Err, sym, ap, ◌∙◌, subst, arith}
 use Rattle.expression.specs.Forms.{Tree}
 use Rattle.course.specs.declared.workspace.Workspace.{Workspace}
 use Rattle.course.specs.declared.source.Source.{Source}

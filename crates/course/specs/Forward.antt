@@ -29,7 +29,7 @@
 --   eval            the rules
 --   outermost       the environment of a whole expression: graph variable 0 is the source's root
 --   forward         the run: the course with the whole's node for marker 0, or the first entry that does not fit
-use Rattle.std.specs.Prelude.{ℕ, ◌+◌, Bool, false, cond, List, [], ◌∷◌, ◌++◌, length, set, replicate, slice_index, slice_index_or, slice_set}
+use Rattle.std.specs.Prelude.{ℕ, ◌+◌, Bool, false, cond, List, [], ◌∷◌, ◌++◌, length, replicate, slice_index, slice_index_or, slice_set}
 use Rattle.expression.specs.declared.term.Term.{Term}
 use Rattle.expression.specs.declared.term.Term.TheVariants.{Constant as Fixed, Variable}
 use Rattle.expression.specs.Forms.{Tree, t_zero, t_node, t_edge, t_union, t_mark, t_out, t_disjoint, t_append, t_graph, t_if, t_recursion, ins}
@@ -40,7 +40,7 @@ use Rattle.course.specs.declared.course.Origin.{Origin}
 use Rattle.course.specs.declared.course.Origin.TheVariants.{Blank, Constant}
 use Rattle.course.specs.declared.environment.Environment.{Environment}
 use Rattle.course.specs.declared.environment.Out.{Out}
-use Rattle.course.specs.Course.{is_blank_origin, Course, Run, Step, onward, give, ◌>>=◌, ◌>>◌, branch, enter_node, enter_frame, enter_comparison, new_node, new_arrow, each, each_at, nodes_for}
+use Rattle.course.specs.Course.{is_blank_origin, Run, Step, onward, give, ◌>>=◌, ◌>>◌, branch, enter_node, enter_frame, enter_comparison, new_node, new_arrow, each, each_at, nodes_for}
 use Rattle.course.specs.Labels.{Compare}
 use Rattle.course.specs.Reach.{reached}
 use Rattle.course.specs.Hubs.{hubs}

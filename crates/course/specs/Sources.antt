@@ -7,7 +7,7 @@
 --   sized n l       whether n nodes and l arrows are as many as a source may have
 --   fault n as      what is wrong with n nodes and the arrows as, the counts first; None where it is a source
 --   Taken n as r    the answer r to n nodes and the arrows as: a source of just these, or their fault
-use Rattle.std.specs.Prelude.{◌≡◌, ℕ, suc, Bool, true, false, cond, ◌&&◌, List, [], ◌∷◌, length, take, Some, None, Ok, Err, Option, Result, nat_le}
+use Rattle.std.specs.Prelude.{◌≡◌, ℕ, suc, Bool, cond, ◌&&◌, List, [], ◌∷◌, length, take, Some, None, Ok, Err, Option, Result, nat_le}
 use Rattle.course.specs.declared.source.Source.{Source}
 use Rattle.course.specs.declared.source.SourceFault.{SourceFault}
 use Rattle.course.specs.declared.source.SourceFault.TheVariants.{Count, End}

@@ -7,7 +7,7 @@
 --   Counts m h n g     from the marks m and the list h to the marks n and the list g, as many were listed as were marked
 --   Popped h g r       g is h without its last element, and r is that element; None where h is empty
 --   Lies b c           the list c lies in the slots of b
-use Rattle.std.specs.Prelude.{◌≡◌, ℕ, ◌+◌, ◌<◌, ◌≤◌, Bool, true, false, cond, ◌⊎◌, List, [], ◌∷◌, ◌++◌, map, length, get_or, Some, None, Option, slice_index_or}
+use Rattle.std.specs.Prelude.{◌≡◌, ℕ, ◌+◌, ◌<◌, ◌≤◌, Bool, true, false, ◌⊎◌, List, [], ◌∷◌, ◌++◌, map, length, get_or, Some, None, Option, slice_index_or}
 use Rattle.course.specs.declared.course.Arrow.{Arrow}
 use Rattle.bounded.specs.declared.list.Bounded.{Bounded}
 use Rattle.bounded.specs.Lists.{room}

@@ -1,4 +1,6 @@
 // The forward run of an admitted expression over a source, and the course that it leaves.
+#![tactic(auto)]
+
 mod build;
 pub mod classes;
 pub mod course;

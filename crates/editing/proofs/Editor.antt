@@ -4,7 +4,6 @@ use Rattle.std.specs.List.{slice_get}
 use Rattle.course.specs.declared.course.Origin.{Origin}
 use Rattle.course.specs.declared.course.Origin.TheVariants.{Blank, Source, Constant}
 use Rattle.course.specs.Reach.{In}
-use Rattle.rows.specs.declared.row.Row.{Row}
 use Rattle.editing.specs.declared.refusal.Refusal.{Refusal}
 use Rattle.editing.specs.declared.refusal.Refusal.TheVariants.{NothingOpened}
 use Rattle.editing.specs.declared.request.Edit.{Edit}
@@ -12,11 +11,10 @@ use Rattle.editing.specs.declared.request.Request.TheVariants as ask
 use Rattle.editing.specs.declared.request.Answer.{Answer}
 use Rattle.editing.specs.declared.request.Answer.TheVariants as answer
 use Rattle.editing.specs.Drafts.{Labelling, label_in, is_source, Change, first, asked_or, put, changes}
-use Rattle.editing.specs.Model.{Opening, rows_shown, Call, State, Response, commits, under, present, refuse, fits, settled, judge, decide, view, act, start, next, reply, after}
-use Rattle.editing.specs.Model
+use Rattle.editing.specs.Model.{Opening, Call, State, Response, commits, under, refuse, fits, settled, judge, decide, view, act, start, next, reply, after}
 use Rattle.editing.specs.Machine.{Desk, seen, perform, step, run}
 use Rattle.editing.specs.Law.{Exact, meant, Opens, opened, asks}
-use Rattle.editing.specs.Editor.{row_read, Untouched, Shown, Again, EmptyCommit, TakenCommit, UndoRedo, RedoUndo}
+use Rattle.editing.specs.Editor.{row_read, Shown, Again, EmptyCommit, TakenCommit, UndoRedo, RedoUndo}
 use Rattle.editing.proofs.Editing.{first_some, source_is, put_shows}
 use Rattle.editing.proofs.Histories.{Holding, Drafted, Rowed, Takes, takes_back, start_holds, next_holds, row_label, committed, passed}
 use Rattle.editing.proofs.Relabelling.{renewed, renewed_same, relabelled}

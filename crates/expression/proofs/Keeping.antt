@@ -1,15 +1,14 @@
 -- A table that passes every check: the tree of its last place keeps the rules. Assumes nothing.
-use Rattle.std.proofs.Common.{◌≡◌, ℕ, zero, suc, ◌+◌, ◌-◌, ◌<◌, ◌≤◌, Bool, true, false, cond, ◌&&◌, eqb, ltb, leb, List, [], ◌∷◌, get_or, sym, refl, ap, ◌∙◌, subst, ap₂, ⊎_elim, not-suc-le-zero, arith}
-use Rattle.std.proofs.lemmas.Bool.{and_parts, and_from, leb-true, lt-ltb, eq-eqb, ne_eqb, cond-true, cond-false, cases_eq}
+use Rattle.std.proofs.Common.{◌≡◌, ℕ, zero, suc, ◌+◌, ◌-◌, ◌<◌, ◌≤◌, true, cond, eqb, List, get_or, sym, refl, ap, ◌∙◌, subst, not-suc-le-zero, arith}
+use Rattle.std.proofs.lemmas.Bool.{and_parts, and_from, leb-true, lt-ltb, eq-eqb, ne_eqb, cond-true, cond-false}
 use Rattle.expression.specs.declared.form.Form.{Form}
 use Rattle.expression.specs.declared.form.Form.TheVariants.{Zero, Node, Edge, Union, Mark, Out, Disjoint, Append, Graph, If, Recursion}
 use Rattle.expression.specs.Forms.{Tree, lower, Lower, grown, tree_at, ins, outs}
 use Rattle.expression.specs.Parts.{parts_of, here, times, raised}
 use Rattle.expression.specs.Rules.{fits, sets_fit, keeps}
-use Rattle.expression.specs.Admission.{part_once, fields_fit, in_range_lem, level_at, range_kept, sets_hold, closed, sets_agree}
+use Rattle.expression.specs.Admission.{part_once, fields_fit, level_at, range_kept, sets_hold, closed, sets_agree}
 use Rattle.expression.proofs.Trees.{unrolls, lower_tells}
 use Rattle.expression.proofs.Occurring.{here_same}
-use Rattle.expression.proofs.Counting.{here_bound}
 use Rattle.expression.proofs.Rising.{whole_level, part_level, part_times}
 
 -- the first and the second of two parts

@@ -1,5 +1,5 @@
 -- An admitted expression keeps the law. Assumes nothing.
-use Rattle.std.proofs.Common.{◌≡◌, ℕ, zero, suc, ◌+◌, ◌-◌, ◌<◌, ◌≤◌, Bool, true, false, cond, not, ◌&&◌, ◌||◌, eqb, ltb, leb, List, [], ◌∷◌, get_or, sym, refl, ap, ◌∙◌, subst, ap₂, not-suc-le-zero, arith}
+use Rattle.std.proofs.Common.{◌≡◌, ℕ, zero, suc, ◌-◌, ◌<◌, ◌≤◌, Bool, true, false, not, ◌&&◌, ◌||◌, eqb, ltb, leb, List, [], ◌∷◌, get_or, sym, refl, ap, ◌∙◌, subst, ap₂, not-suc-le-zero, arith}
 use Rattle.std.proofs.lemmas.Bool.{and_parts, leb-true, ltb-true, both_ways, not-true, eq-eqb, ne_eqb, cond-true, cond-false}
 use Rattle.expression.specs.declared.term.Term.{Term}
 use Rattle.expression.specs.declared.term.Term.TheVariants.{Constant, Variable}
@@ -8,10 +8,10 @@ use Rattle.expression.specs.declared.form.Form.TheVariants.{Zero, Node, Edge, Un
 use Rattle.expression.specs.declared.expression.Expression.{Expression}
 use Rattle.expression.specs.Markers.{no_markers, just, equal_flags, alike, apart, within}
 use Rattle.expression.specs.Forms.{Tree, t_zero, t_node, t_edge, t_union, t_mark, t_out, t_disjoint, t_append, t_graph, t_if, t_recursion, lower, Lower, grown, tree_at, ins, outs}
-use Rattle.expression.specs.Parts.{parts_of, here, times, place_of, occurrences, raised, level_in}
+use Rattle.expression.specs.Parts.{parts_of, times, place_of, raised}
 use Rattle.expression.specs.Rules.{term_fits, fits, sets_fit, keeps}
-use Rattle.expression.specs.Admission.{fields_fit, in_range_lem}
-use Rattle.expression.specs.Law.{Has, Apart, Within, TermIn, FieldsIn, Keeps, Drawn, PartLevels, expressed, level_of, Lawful}
+use Rattle.expression.specs.Admission.{fields_fit}
+use Rattle.expression.specs.Law.{Apart, Within, TermIn, FieldsIn, Keeps, Drawn, PartLevels, expressed, level_of, Lawful}
 use Rattle.expression.proofs.Trees.{unrolls, lower_tells}
 use Rattle.expression.proofs.Occurring.{here_same, place_at, occurs_above, occurs_once}
 use Rattle.expression.proofs.Rising.{whole_level, part_level, part_times}

@@ -1,10 +1,10 @@
 -- Levels handed from each place to its parts, from the last place down. Assumes nothing.
-use Rattle.std.proofs.Common.{◌≡◌, ℕ, zero, suc, ◌+◌, ◌-◌, ◌<◌, ◌≤◌, Bool, true, cond, eqb, ◌⊎◌, List, [], ◌∷◌, length, get_or, sym, refl, ap, ◌∙◌, ⊎_elim, arith}
-use Rattle.std.proofs.lemmas.Bool.{cases_lt, cases_eq, cond_both}
+use Rattle.std.proofs.Common.{◌≡◌, ℕ, suc, ◌-◌, ◌<◌, ◌≤◌, true, eqb, List, get_or, sym, refl, ap, ◌∙◌, ⊎_elim, arith}
+use Rattle.std.proofs.lemmas.Bool.{cases_lt, cond_both}
 use Rattle.expression.specs.declared.form.Form.{Form}
 use Rattle.expression.specs.declared.form.Form.TheVariants.{Zero, Node, Edge, Union, Mark, Out, Disjoint, Append, Graph, If, Recursion}
 use Rattle.expression.specs.Forms.{lower}
-use Rattle.expression.specs.Parts.{parts_of, times, Below, raised}
+use Rattle.expression.specs.Parts.{parts_of, times, raised}
 use Rattle.expression.specs.Admission.{part_once, level_at}
 use Rattle.expression.proofs.Occurring.{here_same, below_at, user_of, user_above, times_above}
 use Rattle.expression.proofs.Rising.{whole_level, part_level}

@@ -1,5 +1,5 @@
 -- The table of one node passes every check. Assumes nothing.
-use Rattle.std.proofs.Common.{◌≡◌, ℕ, zero, suc, ◌<◌, ◌≤◌, Bool, true, List, length, get_or, set, replicate, None, sym, refl, ap, ◌∙◌, subst, not-suc-le-zero, arith}
+use Rattle.std.proofs.Common.{◌≡◌, ℕ, zero, suc, ◌<◌, ◌≤◌, true, List, length, get_or, set, replicate, None, sym, refl, ap, subst, not-suc-le-zero, arith}
 use Rattle.expression.specs.declared.form.Form.{Form}
 use Rattle.expression.specs.declared.form.Form.TheVariants.{Zero, Node}
 use Rattle.expression.specs.Forms.{lower, tree_at, tree_in, ins, outs}

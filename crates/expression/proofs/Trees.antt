@@ -4,7 +4,7 @@ use Rattle.std.proofs.lemmas.List.{get_or_past}
 use Rattle.std.proofs.lemmas.Bool.Decides.{nat_tests}
 use Rattle.expression.specs.declared.form.Form.{Form}
 use Rattle.expression.specs.declared.form.Form.TheVariants.{Zero, Node, Edge, Union, Mark, Out, Disjoint, Append, Graph, If, Recursion}
-use Rattle.expression.specs.Forms.{Tree, t_zero, t_node, t_edge, t_union, t_mark, t_out, t_disjoint, t_append, t_graph, t_if, t_recursion, lower, Lower, grown, tree_in, tree_at, ins, outs}
+use Rattle.expression.specs.Forms.{Tree, t_zero, t_edge, t_union, t_mark, t_disjoint, t_append, t_if, t_recursion, lower, Lower, grown, tree_in, tree_at, ins, outs}
 use Rattle.expression.specs.Markers.{no_markers}
 
 -- what the test of lower parts says

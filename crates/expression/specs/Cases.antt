@@ -8,11 +8,10 @@
 --   node, out, graph, edge, union, choice, recursion    one of a form, its unused fields 0
 --   places_p, places_q       the two cabinets' raw places
 --   Worked                 what admission answers to them, and one case of each refusal
-use Rattle.std.specs.Prelude.{◌≡◌, ℕ, List, [], ◌∷◌, Ok, Err, Result}
+use Rattle.std.specs.Prelude.{◌≡◌, ℕ, List, [], ◌∷◌, Ok, Err}
 use Rattle.expression.specs.declared.term.Term.{Term}
 use Rattle.expression.specs.declared.term.Term.TheVariants.{Constant, Variable}
 use Rattle.expression.specs.declared.raw.RawPlace.{RawPlace}
-use Rattle.expression.specs.declared.refusal.Refusal.{Refusal}
 use Rattle.expression.specs.declared.refusal.Refusal.TheVariants.{Size, IllFormed, NotPartOnce, OutOfRange, SetsUnfit}
 use Rattle.expression.specs.Forms.{tree_in, tree_at, ins, outs}
 use Rattle.expression.specs.Parts.{uses, occurrences, level_in}

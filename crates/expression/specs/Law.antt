@@ -14,7 +14,7 @@
 --   expressed x            the tree of the expression x
 --   level_of x p            the level of its place p there
 --   Lawful x               the law of the admitted expression x
-use Rattle.std.specs.Prelude.{◌≡◌, ℕ, suc, ◌-◌, ◌<◌, ◌≤◌, Bool, true, false, List, slice_index_or}
+use Rattle.std.specs.Prelude.{◌≡◌, ℕ, suc, ◌<◌, ◌≤◌, Bool, true, false, List, slice_index_or}
 use Rattle.expression.specs.declared.term.Term.{Term}
 use Rattle.expression.specs.declared.term.Term.TheVariants.{Constant, Variable}
 use Rattle.expression.specs.declared.form.Form.{Form}

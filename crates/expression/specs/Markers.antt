@@ -7,7 +7,7 @@
 --   alike a b     whether a and b have the same markers
 --   apart a b     whether a and b have no marker in common
 --   within a b    whether b has every marker of a
-use Rattle.std.specs.Prelude.{ℕ, Bool, true, false, not, ◌&&◌, ◌||◌, List, [], ◌∷◌, set, replicate, slice_set}
+use Rattle.std.specs.Prelude.{ℕ, Bool, true, false, not, ◌&&◌, ◌||◌, List, [], ◌∷◌, replicate, slice_set}
 
 abbrev pub no_markers : List Bool
 no_markers = replicate 8 false

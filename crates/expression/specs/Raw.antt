@@ -4,7 +4,7 @@
 --                none where the letter is no form's
 --   or_zero o     the form o, or a Zero where there is none
 --   form_read r   the form that r names, a Zero where the letter is no form's
-use Rattle.std.specs.Prelude.{ℕ, cond, Some, None, Option, ◌==◌}
+use Rattle.std.specs.Prelude.{cond, Some, None, Option, ◌==◌}
 use Rattle.expression.specs.declared.form.Form.{Form}
 use Rattle.expression.specs.declared.form.Form.TheVariants.{Zero, Node, Edge, Union, Mark, Out, Disjoint, Append, Graph, If, Recursion}
 use Rattle.expression.specs.declared.raw.RawPlace.{RawPlace}

@@ -5,7 +5,7 @@
 --   sets_fit e         the conditions on in-sets and out-sets, at each place of e
 --   keeps n e          all of these of a whole expression, which has the level 0, is entered by
 --                      marker 0 alone and leaves nothing open
-use Rattle.std.specs.Prelude.{ℕ, suc, Bool, true, ◌&&◌, List, nat_le, nat_lt}
+use Rattle.std.specs.Prelude.{ℕ, suc, Bool, true, ◌&&◌, nat_le, nat_lt}
 use Rattle.expression.specs.declared.term.Term.{Term}
 use Rattle.expression.specs.declared.term.Term.TheVariants.{Constant, Variable}
 use Rattle.expression.specs.Markers.{no_markers, just, alike, apart, within}

@@ -1,4 +1,6 @@
 // Expressions of the UnCAL graph algebra, and their admission.
+#![tactic(auto)]
+
 pub mod admit;
 pub mod cases;
 mod conditions;

@@ -1,4 +1,6 @@
 // Tests of admission at each of its bounds.
+#![tactic(auto)]
+
 #[cfg(test)]
 mod places;
 #[cfg(test)]

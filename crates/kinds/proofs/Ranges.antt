@@ -1,7 +1,6 @@
 -- What the two comparisons of a number of seconds or metres say. Assumes nothing.
-use Rattle.std.proofs.Common.{◌≡◌, ℕ, zero, suc, ◌+◌, ◌*◌, ◌^◌, ◌<◌, ◌≤◌, Bool, true, false, not, ◌&&◌, ◌||◌, eqb, ltb, leb, ℤ, pos, negsuc, sym, refl, ap, ◌∙◌, zero-lt-suc, mul-pos, zero-mul, mul-one, arith, pow_pos}
+use Rattle.std.proofs.Common.{◌≡◌, ℕ, zero, suc, ◌+◌, ◌*◌, ◌<◌, true, false, ◌&&◌, ◌||◌, eqb, ltb, leb, ℤ, pos, negsuc, refl, ap, ◌∙◌, zero-lt-suc, mul-pos, zero-mul, mul-one, arith, pow_pos}
 use lib.Ieee.{Float, nan, inf, fin, binary32, up, down, le, lt, eq, of_bits, of_fields, odd}
-use Rattle.std.proofs.lemmas.Bool.{lt-ltb, le-ltb, le-leb, lt-leb, eq-eqb, ne_eqb, cases_lt, cases_order}
 use Rattle.std.proofs.lemmas.Bool.Decides.{nat_tests}
 use Rattle.kinds.specs.Settings.{inside}
 

@@ -1,17 +1,17 @@
 -- Texts of settings: their lengths, and back from a text to its setting. Assumes nothing.
-use Rattle.std.specs.Prelude.{◌≡◌, ℕ, zero, suc, ◌+◌, ◌-◌, ◌*◌, ◌^◌, ◌<◌, ◌≤◌, Bool, true, false, cond, T, List, [], ◌∷◌, ◌++◌, map, length, drop, Some, None, Ok, Err, Option, ◌≢◌, from_bits, slice_index, to_bits, refl, Float}
-use Rattle.std.proofs.Common.{sym, ap, subst, ◌∙◌, arith}
+use Rattle.std.specs.Prelude.{◌≡◌, ℕ, ◌^◌, ◌<◌, ◌≤◌, Bool, true, false, cond, ◌↔◌, T, List, length, drop, Some, None, Ok, Err, Option, ◌≢◌, from_bits, slice_index, to_bits, refl, Float}
+use Rattle.std.proofs.Common.{ap, subst, ◌∙◌, arith}
 use Rattle.std.specs.Float.Ieee.{fits}
 use Rattle.std.specs.Float.{binary32}
-use Rattle.std.specs.Float.Ieee.Bits.{of_bits-to_bits, of_bits-fits, to_bits-lt}
-use Rattle.std.proofs.lemmas.Bool.{cond-true}
+use Rattle.std.specs.Float.Ieee.Bits.{of_bits-to_bits, to_bits-lt}
+use Rattle.std.proofs.lemmas.Bool.{both_ways, cond-true, eqb-true, eq-eqb}
 use Rattle.kinds.specs.declared.refusal.Refusal.TheVariants.{Setting as BadSetting}
 use Rattle.kinds.specs.declared.setting.SettingLabel.{SettingLabel}
 use Rattle.kinds.specs.declared.setting.Setting.{Setting}
 use Rattle.kinds.specs.declared.setting.Setting.TheVariants.{Seconds, Metres, Count, Mark}
 use Rattle.kinds.specs.Digits.{spelled}
 use Rattle.kinds.specs.Filed.{Tied}
-use Rattle.kinds.specs.Settings.{Meant, seconds, metres, count, mark, meant_by, meant, legal, making, text_of, setting_text, Reads, Holds}
+use Rattle.kinds.specs.Settings.{Meant, seconds, metres, count, mark, meant_by, meant, alike_meant, legal, making, text_of, setting_text, Reads, Holds}
 use Rattle.kinds.specs.Spelled.{spelled_long, spelled_short, same_from_spelled}
 
 heads : (l k : List ℕ) → l ≡ k → slice_index l 0 ≡ slice_index k 0
@@ -38,6 +38,34 @@ text_back mark mark e = refl
 
 pub setting_tied : Tied setting_text meant
 setting_tied = record { one_meaning = λ x y e. text_back (meant x) (meant y) e; one_text = λ x y e. ap text_of e }
+
+-- whether two meanings are one is told exactly
+alike_one : (m n : Meant) → alike_meant m n ≡ true → m ≡ n
+alike_one (seconds m) (seconds n) e = ap seconds (eqb-true m n e)
+alike_one (seconds m) (metres n) e = absurd (both_ways false refl e)
+alike_one (seconds m) (count n) e = absurd (both_ways false refl e)
+alike_one (seconds m) mark e = absurd (both_ways false refl e)
+alike_one (metres m) (seconds n) e = absurd (both_ways false refl e)
+alike_one (metres m) (metres n) e = ap metres (eqb-true m n e)
+alike_one (metres m) (count n) e = absurd (both_ways false refl e)
+alike_one (metres m) mark e = absurd (both_ways false refl e)
+alike_one (count m) (seconds n) e = absurd (both_ways false refl e)
+alike_one (count m) (metres n) e = absurd (both_ways false refl e)
+alike_one (count m) (count n) e = ap count (eqb-true m n e)
+alike_one (count m) mark e = absurd (both_ways false refl e)
+alike_one mark (seconds n) e = absurd (both_ways false refl e)
+alike_one mark (metres n) e = absurd (both_ways false refl e)
+alike_one mark (count n) e = absurd (both_ways false refl e)
+alike_one mark mark e = refl
+
+alike_self : (m : Meant) → alike_meant m m ≡ true
+alike_self (seconds n) = eq-eqb n n refl
+alike_self (metres n) = eq-eqb n n refl
+alike_self (count n) = eq-eqb n n refl
+alike_self mark = refl
+
+pub settings_exact : (s t : SettingLabel) → (alike_meant (meant s) (meant t) ≡ true) ↔ (meant s ≡ meant t)
+settings_exact s t = (alike_one (meant s) (meant t), λ e. subst (λ (n : Meant). alike_meant (meant s) n ≡ true) e (alike_self (meant s)))
 
 -- ---- how long the digits are
 

@@ -6,7 +6,7 @@ use crate::label::Label;
 
 // The lowest index of a label that is the same as `label`.
 pub fn lowest_same<L: Label>(labels: &[L], label: &L) -> Option<usize>
-    ensures { LowestSame (map meaning labels.now) (meaning label.now) result }
+    ensures { LowestSame (map L.meaning labels.now) (L.meaning label.now) result }
 {
     for (i, other) in labels.iter().enumerate() {
         if other.same(label) {
@@ -20,7 +20,7 @@ pub fn lowest_same<L: Label>(labels: &[L], label: &L) -> Option<usize>
 // stays as it is, and the answer is no.
 pub fn class_numbers<L: Label>(labels: &[L], classes: &mut [usize]) -> bool
     ensures value { result ≡ nat_le (length labels.now) (length classes.old) }
-    ensures after { MatchBool result (Classes (map meaning labels.now) classes.new) (classes.new ≡ classes.old) }
+    ensures after { MatchBool result (Classes (map L.meaning labels.now) classes.new) (classes.new ≡ classes.old) }
     ensures rest { drop (length labels.now) classes.new ≡ drop (length labels.now) classes.old }
 {
     if classes.len() < labels.len() {

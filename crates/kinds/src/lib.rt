@@ -1,4 +1,6 @@
 // Label kinds: what the label of an arrow can be, and how labels are told apart.
+#![tactic(auto)]
+
 pub mod alphabet;
 pub mod classes;
 pub mod digits;

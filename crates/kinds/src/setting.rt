@@ -6,7 +6,7 @@ ghost use Rattle.kinds.specs.declared.refusal.Refusal.TheVariants.{Setting as Se
 ghost use Rattle.kinds.specs.Digits.{spelled};
 ghost use Rattle.kinds.specs.Settings.{Meant, meant_by, meant, alike_meant, inside, legal, making, text_of, setting_text, Reads, Holds, Made};
 ghost use Rattle.std.proofs.Common.{rules};
-ghost use Rattle.kinds.specs.SettingTexts.{setting_tied};
+ghost use Rattle.kinds.specs.SettingTexts.{setting_tied, settings_exact};
 
 use crate::digits::{append_digits, read_digits};
 use crate::filed::{FiledLabel, TEXT_SIZE};
@@ -76,7 +76,7 @@ impl Label for SettingLabel {
 
     ghost alike = { λ s t. alike_meant (meant s) (meant t) };
 
-    ghost exact = { Prim.search rules };
+    ghost exact = { settings_exact };
 
     fn same(&self, other: &SettingLabel) -> bool {
         match (self.setting, other.setting) {

@@ -2,8 +2,7 @@
 ghost use Rattle.std.specs.Prelude.{◌≡◌, ℕ, ◌≤◌, List, take, IfOk};
 ghost use Rattle.kinds.specs.Texts.{trimmed, bytes_of, equal, making, Kept, Made};
 ghost use Rattle.kinds.specs.declared.refusal.Refusal.TheVariants.{Text as TextRefused};
-ghost use Rattle.kinds.specs.Trims.{equal_exact};
-ghost use Rattle.std.proofs.Common.{rules};
+ghost use Rattle.kinds.specs.Trims.{equal_exact, text_tied};
 
 use crate::alphabet::in_house;
 use crate::filed::{FiledLabel, TEXT_SIZE};
@@ -74,7 +73,7 @@ impl FiledLabel for TextLabel {
 
     ghost refusal = { TextRefused };
 
-    ghost tied = { Prim.search rules };
+    ghost tied = { text_tied };
 
     fn write_text(&self, out: &mut [u8]) -> Option<usize> {
         if out.len() < TEXT_SIZE {

@@ -47,9 +47,9 @@ fn bounds_law()
 
 // Class numbers stand for labels, for every kind of label.
 fn labels_law<L: Label>()
-    ensures classes { ClassesStand alike meaning }
-    ensures recorded { RecordedMeanings alike meaning }
-    ensures same_course { SameCourseMeanings alike meaning }
+    ensures classes { ClassesStand L.alike L.meaning }
+    ensures recorded { RecordedMeanings L.alike L.meaning }
+    ensures same_course { SameCourseMeanings L.alike L.meaning }
 {}
 
 // The worked cases of two small cabinets.

@@ -1,7 +1,5 @@
 -- One line more is answered. Assumes nothing.
-use Rattle.std.proofs.Common.{◌≡◌, ℕ, zero, suc, ◌+◌, ◌<◌, ◌≤◌, List, [], ◌∷◌, ◌++◌, map, length, get_or, take, Some, None, Option, unwrap_or, sym, refl, ap, ◌∙◌, subst, ⊎_elim, append_assoc, arith, length-append}
-use mathlib.Core.List.{map-append}
-use lib.ListN.{length-map}
+use Rattle.std.proofs.Common.{◌≡◌, ℕ, zero, suc, ◌+◌, ◌<◌, ◌≤◌, List, [], ◌∷◌, ◌++◌, length, get_or, take, Some, None, Option, unwrap_or, sym, refl, ap, ◌∙◌, subst, ⊎_elim, append_assoc, arith, length-append}
 use Rattle.std.specs.List.{slice_get}
 use Rattle.std.proofs.lemmas.List.{append-nil, get_or_append_left, get_or_at, take-append-le, take_at}
 use Rattle.std.proofs.lemmas.Bool.{cases_lt}
@@ -9,8 +7,8 @@ use Rattle.kinds.specs.declared.refusal.Refusal.{Refusal}
 use Rattle.kinds.specs.declared.refusal.Refusal.TheVariants.{Text}
 use Rattle.kinds.specs.Classes.{LowestSame, Class}
 use Rattle.listing.specs.declared.answer.Answer.{Answer}
-use Rattle.listing.specs.declared.answer.Answer.TheVariants.{Label, Refused}
-use Rattle.listing.specs.Answers.{meaning_of, Answers, Listed}
+use Rattle.listing.specs.declared.answer.Answer.TheVariants.{Refused}
+use Rattle.listing.specs.Answers.{Answers, Listed}
 
 -- some of the lines are answered, and the others are to come
 pub record Progress {L M : Type 0} (text : L → List ℕ) (made : L → Type 0) (refusal : Refusal) (meaning : L → M) (lines rest : List (List ℕ)) (answers : List (Answer L)) : Type 0 where

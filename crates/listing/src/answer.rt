@@ -43,7 +43,7 @@ fn lowest_line<L: FiledLabel>(answers: &[Answer<L>], label: &L) -> Option<usize>
 
 // The answer to a line after the answers to the lines before it.
 fn answer_to<L: FiledLabel>(earlier: &[Answer<L>], line: &[u8]) -> Answer<L>
-    ensures { Answers text made refusal L.Label.meaning earlier.now line.now result }
+    ensures { Answers L.text L.made L.refusal L.Label.meaning earlier.now line.now result }
 {
     match L::read_text(line) {
         Ok(label) => {
@@ -56,7 +56,7 @@ fn answer_to<L: FiledLabel>(earlier: &[Answer<L>], line: &[u8]) -> Answer<L>
 
 // The answer to each line of a text.
 pub fn list_labels<L: FiledLabel>(heap: Global, bytes: &[u8]) -> Result<Vec<Answer<L>>, AllocError>
-    ensures { IfOk result (λ v. Listed text made refusal L.Label.meaning (lines_of bytes.now) v.items) }
+    ensures { IfOk result (λ v. Listed L.text L.made L.refusal L.Label.meaning (lines_of bytes.now) v.items) }
 {
     let mut answers = Vec::new(heap);
     let mut rest = bytes;

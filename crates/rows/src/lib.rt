@@ -1,4 +1,6 @@
 // The view of a course: its rows.
+#![tactic(auto)]
+
 mod fitting;
 mod links;
 mod listing;

@@ -1,5 +1,5 @@
 -- The rows of a course that a workspace holds. Assumes nothing.
-use Rattle.std.proofs.Common.{◌≡◌, ℕ, zero, suc, ◌<◌, ◌≤◌, Bool, true, false, cond, ◌&&◌, ltb, leb, List, [], ◌∷◌, map, length, get_or, Some, None, Ok, Err, vec_items, vec_len, Option, Result, sym, refl, ap, ◌∙◌, arith}
+use Rattle.std.proofs.Common.{◌≡◌, ℕ, suc, ◌<◌, Bool, true, false, cond, leb, List, [], ◌∷◌, map, length, get_or, Some, None, Ok, Err, vec_items, vec_len, Option, Result, refl, ap, arith}
 use Rattle.std.proofs.lemmas.Bool.{and_from, lt-ltb, le-leb}
 use Rattle.course.specs.declared.course.Arrow.{Arrow}
 use Rattle.course.specs.declared.workspace.Workspace.{Workspace}

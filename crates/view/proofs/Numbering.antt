@@ -10,8 +10,7 @@ use Rattle.course.specs.declared.course.Origin.{Origin}
 use Rattle.course.specs.declared.course.Origin.TheVariants.{Blank, Source, Constant}
 use Rattle.course.specs.Labels.{class_of}
 use Rattle.laws.specs.Labelling.{label_of, Tells}
-use Rattle.laws.specs.Bounds.{Labelled}
-use Rattle.view.specs.Numbers.{ByArrow, ByConstant, Nowhere, Numbered, NumberedBelow, AllNumbered}
+use Rattle.view.specs.Numbers.{Nowhere, Numbered, NumberedBelow, AllNumbered}
 
 pub nth_within : {X : Type 0} (xs : List X) (k : ℕ) (x : X) → slice_get xs k ≡ Some x → k < length xs
 nth_within [] k x e = absurd (let z : ◌≡◌ {A = ℕ} 0 1 = cc in omega arith)

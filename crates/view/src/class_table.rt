@@ -13,7 +13,7 @@ use kinds::label::Label;
 fn class_of<L: Label>(labels: &[L], constants: &[L], label: &L) -> u16
     requires few_labels { length labels.now ≤ 256 }
     requires few_constants { length constants.now ≤ 32 }
-    ensures { Numbered (map meaning labels.now) (map meaning constants.now) (meaning label.now) result }
+    ensures { Numbered (map L.meaning labels.now) (map L.meaning constants.now) (L.meaning label.now) result }
 {
     if let Some(arrow) = lowest_same(labels, label) {
         return arrow as u16;
@@ -29,7 +29,7 @@ fn number_all<L: Label>(labels: &[L], constants: &[L], of: &[L], classes: &mut [
     requires few_labels { length labels.now ≤ 256 }
     requires few_constants { length constants.now ≤ 32 }
     requires room { length of.now ≤ length classes.old }
-    ensures { AllNumbered meaning labels.now constants.now of.now classes.new }
+    ensures { AllNumbered L.meaning labels.now constants.now of.now classes.new }
 {
     for k in 0..of.len() {
         let label = of[k];
@@ -41,7 +41,7 @@ fn number_all<L: Label>(labels: &[L], constants: &[L], of: &[L], classes: &mut [
 pub(crate) fn class_table<L: Label>(labels: &[L], constants: &[L]) -> Classes
     requires few_labels { length labels.now ≤ 256 }
     requires few_constants { length constants.now ≤ 32 }
-    ensures { Tells (length labels.now) (length constants.now) meaning labels.now constants.now result }
+    ensures { Tells (length labels.now) (length constants.now) L.meaning labels.now constants.now result }
 {
     let mut arrow_classes = [0u16; 256];
     let mut constant_classes = [0u16; 32];

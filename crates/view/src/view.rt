@@ -93,9 +93,9 @@ impl View {
         labels: &[L],
         constants: &[L],
     ) -> Result<(), ViewFault>
-        ensures answer { Answered (showing alike (graph_of source.now) expression.now.constants (tree_of expression.now (whole_of expression.now)) labels.now constants.now) (seen self.old) (seen self.new) result }
+        ensures answer { Answered (showing L.alike (graph_of source.now) expression.now.constants (tree_of expression.now (whole_of expression.now)) labels.now constants.now) (seen self.old) (seen self.new) result }
         ensures run_laws { RunLaws }
-        ensures label_laws { LabelLaws alike meaning }
+        ensures label_laws { LabelLaws L.alike L.meaning }
     {
         let arrows = source.arrows();
         let fixed = expression.constants();

@@ -1,4 +1,4 @@
-use Rattle.std.proofs.Common.{◌≡◌, Bool, true, false, sym, refl, ◌∙◌}
+use Rattle.std.proofs.Common.{◌∙◌}
 use Rattle.bench.proofs.EditRows.{stands_edited}
 use Rattle.bench.proofs.edits.is_edited.Goals as goal
 

@@ -1,4 +1,4 @@
-use Rattle.std.proofs.Common.{◌≡◌, ◌-◌, ◌≤◌, ◌++◌, length, take, drop}
+use Rattle.std.proofs.Common.{◌≡◌, ◌≤◌, ◌++◌, length, take, drop}
 use Rattle.course.specs.Course.{onward, give, nodes_for}
 use Rattle.course.specs.Forward.{joint}
 use Rattle.course.specs.View.{course_of, stack, size, Within}

@@ -1,4 +1,4 @@
-use Rattle.std.proofs.Common.{◌≡◌, refl, arith, rules}
+use Rattle.std.proofs.Common.{refl, arith}
 use Rattle.course.proofs.build.join_slot.Goals as goal
 
 pub returns-else-on : goal.returns-else-on

@@ -1,14 +1,14 @@
-use Rattle.std.proofs.Common.{◌≡◌, take, vec_items, vec_len, sym, ap, ◌∙◌, arith, rules}
+use Rattle.std.proofs.Common.{take, vec_items, vec_len, ap, ◌∙◌, arith}
 use Rattle.course.proofs.Walks.{reached_front}
 use Rattle.course.proofs.hubs.find_hubs.Goals as goal
 
-pub number-hubs-requires : goal.number-hubs-requires
-number-hubs-requires c = omega (arith, c.requires.1, c.args.work.now.nodes_within)
+pub number_hubs-requires : goal.number_hubs-requires
+number_hubs-requires c = omega (arith, c.requires.1, c.args.work.now.nodes_within)
 
 pub returns : goal.returns
 returns c =
     let w = c.args.work.now in
-    let n = c.number-hubs.ensures in
+    let n = c.number_hubs.ensures in
     record {
       place = n.place;
       frame = n.frame;

@@ -1,6 +1,5 @@
-use Rattle.std.proofs.Common.{◌≡◌, ℕ, ◌+◌, ◌*◌, ◌≤◌, length, get_or, sym, refl, ap, ◌∙◌, mul-le-mul, arith, rules}
+use Rattle.std.proofs.Common.{◌≡◌, ℕ, ◌*◌, ◌≤◌, length, get_or, refl, mul-le-mul, arith, rules}
 use Rattle.std.proofs.lemmas.List.{take-take}
-use Rattle.course.specs.Reach.{trues}
 use Rattle.course.proofs.Walks.{trues_within}
 use Rattle.course.proofs.Ranks.{trues_taken}
 use Rattle.course.proofs.hubs.hub.Goals as goal
@@ -8,24 +7,24 @@ use Rattle.course.proofs.hubs.hub.Goals as goal
 product : (a b : ℕ) → a ≤ 1024 → b ≤ 8 → a * b ≤ 8192
 product a b h l = let q : a * b ≤ 1024 * 8 = mul-le-mul h l in q
 
-pub overflow-mul-result : goal.overflow-mul-result
-overflow-mul-result c =
+pub overflow_mul-result : goal.overflow_mul-result
+overflow_mul-result c =
     let h = c.args.hubs.now in
     let lm : length h.marks ≡ 1024 = search rules in
     let ls : length h.set ≡ 8 = search rules in
     let q = product (get_or h.ranks c.args.node 0) h.width (omega (arith, h.ranked c.args.node (omega (arith, c.requires.0, h.low)), trues_taken h.marks c.args.node)) (omega (arith, h.wide, trues_within h.set)) in
     omega (arith, q)
 
-pub overflow-add-result : goal.overflow-add-result
-overflow-add-result c =
+pub overflow_add-result : goal.overflow_add-result
+overflow_add-result c =
     let h = c.args.hubs.now in
     let lm : length h.marks ≡ 1024 = search rules in
     let ls : length h.set ≡ 8 = search rules in
     let q = product (get_or h.ranks c.args.node 0) h.width (omega (arith, h.ranked c.args.node (omega (arith, c.requires.0, h.low)), trues_taken h.marks c.args.node)) (omega (arith, h.wide, trues_within h.set)) in
     omega (arith, q, h.low)
 
-pub overflow-add-result-2 : goal.overflow-add-result-2
-overflow-add-result-2 c =
+pub overflow_add-result-2 : goal.overflow_add-result-2
+overflow_add-result-2 c =
     let h = c.args.hubs.now in
     let lm : length h.marks ≡ 1024 = search rules in
     let ls : length h.set ≡ 8 = search rules in

@@ -1,4 +1,4 @@
-use Rattle.std.proofs.Common.{◌≡◌, ℕ, ◌+◌, ◌<◌, ◌≤◌, false, cond, ◌≢◌, length, get_or, take, sym, refl, ap, ◌∙◌, arith, rules, below_more}
+use Rattle.std.proofs.Common.{◌≡◌, ◌+◌, ◌<◌, ◌≤◌, ◌≢◌, length, take, sym, ap, ◌∙◌, arith, rules, below_more}
 use Rattle.std.proofs.lemmas.List.{get_or-set_same, get_or-set_other, take_all}
 use Rattle.course.specs.Reach.{trues}
 use Rattle.course.proofs.Ranks.{trues_more, trues_none, trues_taken}
@@ -7,8 +7,8 @@ use Rattle.course.proofs.hubs.rank.Goals as goal
 pub loop-v-init : goal.loop-v-init
 loop-v-init c = (sym (trues_none c.args.flags.now), λ k h. absurd (omega arith))
 
-pub overflow-add-count : goal.overflow-add-count
-overflow-add-count c =
+pub overflow_add-count : goal.overflow_add-count
+overflow_add-count c =
     let m : c.loop-v.count + c.one-count.result ≡ trues (take (c.loop-v.v + 1) c.args.flags.now) =
     ap (λ n. n + c.one-count.result) c.loop-v.invariant.0 ∙ ap (λ n. trues (take c.loop-v.v c.args.flags.now) + n) c.one-count.ensures ∙ sym (trues_more c.args.flags.now c.loop-v.v (search rules)) in
     omega (arith, m, trues_taken c.args.flags.now (c.loop-v.v + 1), c.requires.1)

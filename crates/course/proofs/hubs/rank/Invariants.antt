@@ -1,4 +1,4 @@
-use Rattle.std.proofs.Common.{◌≡◌, ℕ, ◌<◌, ◌≤◌, length, get_or, take}
+use Rattle.std.proofs.Common.{◌≡◌, ℕ, ◌<◌, get_or, take}
 use Rattle.course.specs.Reach.{trues}
 use Rattle.course.proofs.hubs.rank.Given as goal
 

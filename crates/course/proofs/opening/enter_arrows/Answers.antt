@@ -1,10 +1,10 @@
-use Rattle.std.proofs.Common.{◌≡◌, ◌<◌, ◌≤◌, [], length, get_or, take, sym, refl, ap, ◌∙◌, arith, rules}
+use Rattle.std.proofs.Common.{◌<◌, [], length, get_or, take, sym, refl, ap, ◌∙◌, arith}
 use Rattle.std.proofs.lemmas.List.{get_or-take, length-take-le}
 use Rattle.course.specs.declared.course.Origin.TheVariants.{Source}
 use Rattle.course.specs.Course.{Course, link}
 use Rattle.course.specs.Ends.{joins}
 use Rattle.course.specs.Opening.{source_nodes}
-use Rattle.course.specs.View.{with_arrow, with_arrows}
+use Rattle.course.specs.View.{with_arrow}
 use Rattle.course.proofs.Ends.{inside_at, joined_ends}
 use Rattle.course.proofs.Openings.{nodes_long, arrows_more}
 use Rattle.course.proofs.opening.enter_arrows.Goals as goal
@@ -19,8 +19,8 @@ loop-k-init c =
       w.arrows.ok.0 ∙ ap (λ (x : Course). length x.arrows) c.requires,
     )
 
-pub push-arrow-requires : goal.push-arrow-requires
-push-arrow-requires c =
+pub push_arrow-requires : goal.push_arrow-requires
+push_arrow-requires c =
     let s = c.args.source.now in
     let k = c.loop-k.k in
     let lt : k < s.count = c.loop-k-test.true in
@@ -40,9 +40,9 @@ loop-k-preserved c =
     let k = c.loop-k.k in
     let a = get_or s.arrows k (0, 0) in
     let lt : k < length s.arrows = omega (arith, c.loop-k-test.true, s.long, s.few_arrows) in (
-      c.push-arrow.ensures.items ∙ ap (with_arrow (link a.0 a.1 (Source k) 64 0)) c.loop-k.invariant.0
+      c.push_arrow.ensures.items ∙ ap (with_arrow (link a.0 a.1 (Source k) 64 0)) c.loop-k.invariant.0
           ∙ ap (λ xs. record { nodes = source_nodes 0 s.nodes; arrows = xs; frames = []; comparisons = [] }) (arrows_more s.arrows k lt (length-take-le k s.arrows (omega (arith, lt)))),
-      c.push-arrow.ensures.same ∙ c.loop-k.invariant.1,
-      c.push-arrow.ensures.nodes ∙ c.loop-k.invariant.2,
-      omega (arith, c.push-arrow.ensures.len, c.loop-k.invariant.3),
+      c.push_arrow.ensures.same ∙ c.loop-k.invariant.1,
+      c.push_arrow.ensures.nodes ∙ c.loop-k.invariant.2,
+      omega (arith, c.push_arrow.ensures.len, c.loop-k.invariant.3),
     )

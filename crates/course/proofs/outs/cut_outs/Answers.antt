@@ -1,4 +1,4 @@
-use Rattle.std.proofs.Common.{◌≡◌, length, sym, refl, ap, ◌∙◌, arith, length-append, length-drop, take-append-drop, length-take, rules}
+use Rattle.std.proofs.Common.{length, sym, refl, ap, ◌∙◌, arith, length-append, length-drop, take-append-drop, length-take, rules}
 use Rattle.std.specs.List.{remove}
 use Rattle.course.specs.View.{stack}
 use Rattle.course.proofs.Maps.{cut_more}
@@ -14,6 +14,6 @@ pub loop-i-preserved : goal.loop-i-preserved
 loop-i-preserved c = (
   c.loop-i.invariant.0,
   c.remove.ensures.items ∙ ap (λ s. remove s c.args.base) c.loop-i.invariant.1
-      ∙ cut_more (stack c.args.work.now) c.args.base c.loop-i.-i (search rules) (omega (arith, c.args.work.now.outs.ok.0)),
+      ∙ cut_more (stack c.args.work.now) c.args.base c.loop-i._i (search rules) (omega (arith, c.args.work.now.outs.ok.0)),
   c.loop-i.invariant.2,
 )

@@ -1,4 +1,4 @@
-use Rattle.std.proofs.Common.{◌≡◌, ℕ, ◌+◌, ◌<◌, ◌≤◌, [], ◌∷◌, length, get_or, set, vec_items, vec_len, sym, refl, ap, ◌∙◌, subst, arith, rules}
+use Rattle.std.proofs.Common.{◌≡◌, ◌+◌, ◌<◌, [], ◌∷◌, vec_items, vec_len, arith, rules}
 use Rattle.course.specs.declared.environment.Out.{Out}
 use Rattle.course.specs.Course.{enter_node}
 use Rattle.course.specs.Forward.{out}
@@ -11,63 +11,31 @@ pub returns-then-node-ge-NODES : goal.returns-then-node-ge-NODES
 unfolding enter_node
 returns-then-node-ge-NODES c = search rules
 
-pub invariant-of-work : goal.invariant-of-work
-invariant-of-work c =
+pub invariant_of-work : goal.invariant_of-work
+invariant_of-work c =
     let w = c.args.work.now in
     let n = vec_len w.nodes in
-    let l = vec_len c.push-reserved.new.self in
-    let hl : l ≡ n + 1 = c.push-reserved.ensures.len in
-    let num : c.len-node.result ≡ n = c.len-node.ensures in (
-      omega (arith, w.node_room, c.push-reserved.ensures.capacity),
-      (
-        omega (arith, w.arrow_room),
-        (
-          omega (arith, w.frame_room),
-          (
-            omega (arith, w.comparison_room),
-            (
-              omega (arith, w.out_room, c.push-reserved-2.ensures.capacity),
-              (
-                omega (arith, w.next_room),
-                (
-                  omega (arith, hl, num),
-                  (
-                    omega (arith, w.arrows_within),
-                    (
-                      omega (arith, w.outs_within, hl, c.push-reserved-2.ensures.len),
-                      (
-                        every_push no_out (λ (x : Out). x.node < l) (vec_items w.outs) (vec_items c.push-reserved-2.new.self) (out c.len-node.result c.args.marker) (vec_len w.outs) (vec_len c.push-reserved-2.new.self)
-                            c.push-reserved-2.ensures.items w.outs.ok.0 c.push-reserved-2.ensures.len (λ k h. omega (arith, w.out_nodes k h, hl)) (omega (arith, num, hl)),
-                        (
-                          every_push no_out (λ (x : Out). x.marker < 8) (vec_items w.outs) (vec_items c.push-reserved-2.new.self) (out c.len-node.result c.args.marker) (vec_len w.outs) (vec_len c.push-reserved-2.new.self)
-                              c.push-reserved-2.ensures.items w.outs.ok.0 c.push-reserved-2.ensures.len w.out_markers c.requires,
-                          (
-                            (λ k h. omega (arith, w.tails k h, hl)),
-                            (
-                              (λ k h. omega (arith, w.heads k h, hl)),
-                              (
-                                w.nexts,
-                                (
-                                  w.first_out,
-                                  (
-                                    w.next_out,
-                                    tt,
-                                  ),
-                                ),
-                              ),
-                            ),
-                          ),
-                        ),
-                      ),
-                    ),
-                  ),
-                ),
-              ),
-            ),
-          ),
-        ),
-      ),
-    )
+    let l = vec_len c.push_reserved.new.self in
+    let hl : l ≡ n + 1 = c.push_reserved.ensures.len in
+    let num : c.len-node.result ≡ n = c.len-node.ensures in
+    record {
+      node_room = omega (arith, w.node_room, c.push_reserved.ensures.capacity);
+      arrow_room = omega (arith, w.arrow_room);
+      frame_room = omega (arith, w.frame_room);
+      comparison_room = omega (arith, w.comparison_room);
+      out_room = omega (arith, w.out_room, c.push_reserved-2.ensures.capacity);
+      next_room = omega (arith, w.next_room);
+      nodes_within = omega (arith, hl, num);
+      arrows_within = omega (arith, w.arrows_within);
+      outs_within = omega (arith, w.outs_within, hl, c.push_reserved-2.ensures.len);
+      out_nodes = every_push no_out (λ (x : Out). x.node < l) (vec_items w.outs) (vec_items c.push_reserved-2.new.self) (out c.len-node.result c.args.marker) (vec_len w.outs) (vec_len c.push_reserved-2.new.self) c.push_reserved-2.ensures.items w.outs.ok.0 c.push_reserved-2.ensures.len (λ k h. omega (arith, w.out_nodes k h, hl)) (omega (arith, num, hl));
+      out_markers = every_push no_out (λ (x : Out). x.marker < 8) (vec_items w.outs) (vec_items c.push_reserved-2.new.self) (out c.len-node.result c.args.marker) (vec_len w.outs) (vec_len c.push_reserved-2.new.self) c.push_reserved-2.ensures.items w.outs.ok.0 c.push_reserved-2.ensures.len w.out_markers c.requires;
+      tails = λ k h. omega (arith, w.tails k h, hl);
+      heads = λ k h. omega (arith, w.heads k h, hl);
+      nexts = w.nexts;
+      first_out = w.first_out;
+      next_out = w.next_out;
+    }
 
 pub returns : goal.returns
 unfolding enter_node

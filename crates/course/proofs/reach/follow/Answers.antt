@@ -1,11 +1,11 @@
-use Rattle.std.proofs.Common.{◌≡◌, ℕ, suc, ◌-◌, ◌<◌, ◌≤◌, Bool, true, false, List, length, get_or, set, vec_items, vec_len, sym, refl, ap, ◌∙◌, subst, arith, rules}
+use Rattle.std.proofs.Common.{◌≡◌, ℕ, suc, ◌-◌, ◌<◌, Bool, true, List, length, get_or, set, vec_items, vec_len, sym, refl, ap, ◌∙◌, subst, arith, rules}
 use Rattle.std.proofs.lemmas.List.{get_or_read}
-use Rattle.bounded.specs.Lists.{held, room}
+use Rattle.bounded.specs.Lists.{held}
 use Rattle.course.specs.declared.course.Arrow.{Arrow}
-use Rattle.course.specs.Reach.{lost, trues}
+use Rattle.course.specs.Reach.{lost}
 use Rattle.course.specs.Chains.{latest}
 use Rattle.course.specs.Walk.{Visit, Counts}
-use Rattle.course.proofs.Walks.{latest_below, latest_settled, turn_next, turn_settled, turn_visit, visit_first, visited, after_counts, counts_same, counts_on, tail_at, listed_after}
+use Rattle.course.proofs.Walks.{latest_below, latest_settled, turn_settled, turn_visit, visit_first, visited, after_counts, counts_same, counts_on, tail_at}
 use Rattle.course.proofs.reach.follow.Goals as goal
 
 pub loop-at-init : goal.loop-at-init

@@ -1,6 +1,5 @@
-use Rattle.std.proofs.Common.{◌≡◌, ℕ, ◌≤◌, length, vec_items, vec_len}
-use Rattle.bounded.specs.Lists.{held, room}
-use Rattle.course.specs.Reach.{trues}
+use Rattle.std.proofs.Common.{◌≡◌, ℕ, ◌≤◌, vec_items, vec_len}
+use Rattle.bounded.specs.Lists.{held}
 use Rattle.course.specs.Chains.{latest}
 use Rattle.course.specs.Walk.{Visit, Counts, Lies}
 use Rattle.course.proofs.reach.follow.Given as goal

@@ -1,9 +1,8 @@
-use Rattle.std.proofs.Common.{◌≡◌, ◌<◌, true, false, cond, [], ◌∷◌, ◌++◌, length, get_or, set, sym, refl, ap, ◌∙◌, arith, rules}
+use Rattle.std.proofs.Common.{◌≡◌, ◌<◌, true, false, [], ◌∷◌, ◌++◌, length, get_or, set, sym, refl, ap, ◌∙◌, arith, rules}
 use Rattle.std.proofs.lemmas.List.{set-get_or}
 use Rattle.std.proofs.lemmas.Bool.{cond-true, cond-false}
 use Rattle.bounded.specs.Lists.{held, room}
 use Rattle.bounded.proofs.Appends.{with_room}
-use Rattle.course.specs.Reach.{trues}
 use Rattle.course.proofs.Walks.{trues_below}
 use Rattle.course.proofs.reach.mark.Goals as goal
 

@@ -1,4 +1,4 @@
-use Rattle.std.proofs.Common.{◌≡◌, ℕ, ◌<◌, ◌≤◌, Bool, true, false, List, [], ◌∷◌, ◌++◌, length, get_or, drop, set, vec_items, vec_len, sym, refl, ap, ◌∙◌, subst, arith, take-append-drop, rules}
+use Rattle.std.proofs.Common.{◌≡◌, ℕ, List, [], ◌∷◌, ◌++◌, length, drop, vec_items, vec_len, sym, ap, ◌∙◌, subst, arith, take-append-drop}
 use Rattle.bounded.specs.declared.list.Bounded.{Bounded}
 use Rattle.bounded.specs.Lists.{held, spare, room}
 use Rattle.std.proofs.lemmas.List.{length-append}
@@ -32,27 +32,27 @@ pub follow-requires : goal.follow-requires
 follow-requires c =
     let w = c.args.work.now in
     let long = c.loop-node.invariant.3 in
-    let p : held c.loop-node.todo ≡ held c.take-last.new.todo ++ c.in-Some.node ∷ [] = c.in-Some.ensures.list in
-    let l = taken_marked (vec_items w.arrows) c.args.root c.in-Some.node c.loop-node.marks (held c.loop-node.todo) (held c.take-last.new.todo) p c.loop-node.invariant.0 in (
+    let p : held c.loop-node.todo ≡ held c.take_last.new.todo ++ c.in-Some.node ∷ [] = c.in-Some.ensures.list in
+    let l = taken_marked (vec_items w.arrows) c.args.root c.in-Some.node c.loop-node.marks (held c.loop-node.todo) (held c.take_last.new.todo) p c.loop-node.invariant.0 in (
       omega (arith, l, long),
       (
         c.in-Some.ensures.lies.room ∙ c.loop-node.invariant.2,
-        omega (arith, c.loop-node.invariant.1, ap length p ∙ length-append (held c.take-last.new.todo) (c.in-Some.node ∷ [])),
+        omega (arith, c.loop-node.invariant.1, ap length p ∙ length-append (held c.take_last.new.todo) (c.in-Some.node ∷ [])),
       ),
     )
 
 pub loop-node-smaller : goal.loop-node-smaller
 loop-node-smaller c =
-    visit_less c.loop-node.marks c.follow.new.marks (held c.loop-node.todo) (held c.take-last.new.todo) (held c.follow.new.todo) c.in-Some.node
+    visit_less c.loop-node.marks c.follow.new.marks (held c.loop-node.todo) (held c.take_last.new.todo) (held c.follow.new.todo) c.in-Some.node
     c.in-Some.ensures.list c.follow.ensures.counts c.follow.array_long
 
 pub loop-node-preserved : goal.loop-node-preserved
 loop-node-preserved c =
     let w = c.args.work.now in
-    let p : held c.loop-node.todo ≡ held c.take-last.new.todo ++ c.in-Some.node ∷ [] = c.in-Some.ensures.list in (
+    let p : held c.loop-node.todo ≡ held c.take_last.new.todo ++ c.in-Some.node ∷ [] = c.in-Some.ensures.list in (
       c.follow.ensures.walk c.args.root
-          (visit_starts (vec_items w.arrows) c.args.root c.in-Some.node (vec_len w.arrows) c.loop-node.marks (held c.loop-node.todo) (held c.take-last.new.todo) w.arrows.ok.0 p c.loop-node.invariant.0),
-      omega (arith, c.follow.ensures.counts.more, c.follow.ensures.counts.even, c.loop-node.invariant.1, ap length p ∙ length-append (held c.take-last.new.todo) (c.in-Some.node ∷ [])),
+          (visit_starts (vec_items w.arrows) c.args.root c.in-Some.node (vec_len w.arrows) c.loop-node.marks (held c.loop-node.todo) (held c.take_last.new.todo) w.arrows.ok.0 p c.loop-node.invariant.0),
+      omega (arith, c.follow.ensures.counts.more, c.follow.ensures.counts.even, c.loop-node.invariant.1, ap length p ∙ length-append (held c.take_last.new.todo) (c.in-Some.node ∷ [])),
       c.follow.ensures.lies.room ∙ c.in-Some.ensures.lies.room ∙ c.loop-node.invariant.2,
       c.follow.array_long,
     )
@@ -62,4 +62,4 @@ returns c =
     let w = c.args.work.now in
     let long = c.loop-node.invariant.3 in
     walk_end (vec_items w.arrows) 1024 c.args.root c.loop-node.marks long
-    (subst (λ (z : List ℕ). Walk (vec_items w.arrows) c.args.root c.loop-node.marks z) c.in-default.ensures.list.0 c.loop-node.invariant.0)
+    (subst (λ (z : List ℕ). Walk (vec_items w.arrows) c.args.root c.loop-node.marks z) c.in_default.ensures.list.0 c.loop-node.invariant.0)

@@ -1,7 +1,6 @@
-use Rattle.std.proofs.Common.{◌≡◌, ℕ, ◌+◌, ◌-◌, ◌*◌, ◌≤◌, length, vec_items, vec_len}
+use Rattle.std.proofs.Common.{◌≡◌, ◌+◌, ◌-◌, ◌≤◌, length, vec_items}
 use Rattle.bounded.specs.Lists.{held, room}
 use Rattle.course.specs.Reach.{trues}
-use Rattle.course.specs.Chains.{latest}
 use Rattle.course.specs.Walk.{Walk}
 use Rattle.course.proofs.reach.reach.Given as goal
 

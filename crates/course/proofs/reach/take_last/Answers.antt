@@ -1,4 +1,4 @@
-use Rattle.std.proofs.Common.{◌≡◌, ℕ, ◌+◌, ◌-◌, ◌<◌, List, [], ◌∷◌, ◌++◌, length, get_or, take, Some, None, Option, sym, refl, ap, ◌∙◌, subst, arith, rules}
+use Rattle.std.proofs.Common.{◌≡◌, ℕ, ◌+◌, ◌-◌, ◌<◌, List, [], ◌∷◌, ◌++◌, length, get_or, take, Some, Option, sym, ap, ◌∙◌, subst, arith}
 use Rattle.std.specs.List.{slice_get}
 use Rattle.std.proofs.lemmas.List.{take_more, take_all, nil_from_length}
 use Rattle.std.proofs.lemmas.Option.{slice_get-get_or}
@@ -30,8 +30,8 @@ returns c =
     let a = c.count-n.ensures.same in
     let b = c.get-last.ensures.same ∙ a in
     record {
-      list = popped (held c.args.todo.now) (held c.cut-back.new.self) c.count-n.result c.get-last.result c.count-n.ensures.value (omega arith)
+      list = popped (held c.args.todo.now) (held c.cut_back.new.self) c.count-n.result c.get-last.result c.count-n.ensures.value (omega arith)
           (c.get-last.ensures.value ∙ ap (λ o. slice_get (held o) (c.count-n.result - 1)) a)
-          (c.cut-back.ensures.items ∙ ap (λ o. take (c.count-n.result - 1) (held o)) b);
-      lies = record { room = ap length c.cut-back.ensures.memory ∙ ap room b; lender = c.cut-back.ensures.lender ∙ ap (λ o. o.slots.ghost_name) b };
+          (c.cut_back.ensures.items ∙ ap (λ o. take (c.count-n.result - 1) (held o)) b);
+      lies = record { room = ap length c.cut_back.ensures.memory ∙ ap room b; lender = c.cut_back.ensures.lender ∙ ap (λ o. o.slots.ghost_name) b };
     }

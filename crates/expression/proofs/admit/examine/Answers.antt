@@ -1,4 +1,4 @@
-use Rattle.std.proofs.Common.{◌≡◌, ℕ, ◌<◌, ◌≤◌, List, length, get_or, Some, sym, refl, ap, ◌∙◌, arith}
+use Rattle.std.proofs.Common.{List, length, get_or, Some, sym, refl, ap, ◌∙◌}
 use Rattle.expression.specs.declared.form.Form.{Form}
 use Rattle.expression.specs.declared.form.Form.TheVariants.{Zero}
 use Rattle.expression.specs.Admission.{part_once, range_kept, sets_agree}
@@ -8,107 +8,88 @@ use Rattle.expression.proofs.Lowest.{all_pass}
 use Rattle.expression.proofs.Padding.{padded_past, padded_read, length_padded}
 use Rattle.expression.proofs.admit.examine.Goals as goal
 
-pub returns-then-not-sizes-fit : goal.returns-then-not-sizes-fit
-returns-then-not-sizes-fit c = told_size c.args.raw.now c.args.constants (sym c.if-not-sizes-fit.ensures)
+pub returns-then-not-sizes_fit : goal.returns-then-not-sizes_fit
+returns-then-not-sizes_fit c = told_size c.args.raw.now c.args.constants (sym c.if-not-sizes_fit.ensures)
 
-pub read-table-requires : goal.read-table-requires
-read-table-requires c = (sized_tells _ _ (sym c.if-not-sizes-fit.ensures)).1
+pub read_table-requires : goal.read_table-requires
+read_table-requires c = (sized_tells _ _ (sym c.if-not-sizes_fit.ensures)).1
 
 pub returns-in-Err : goal.returns-in-Err
 returns-in-Err c =
-    told_form c.args.raw.now c.args.constants c.in-Err.place (sym c.if-not-sizes-fit.ensures) (sym c.in-Err.ensures)
+    told_form c.args.raw.now c.args.constants c.in-Err.place (sym c.if-not-sizes_fit.ensures) (sym c.in-Err.ensures)
 
-pub first-not-part-once-requires : goal.first-not-part-once-requires
-first-not-part-once-requires c = ((sized_tells _ _ (sym c.if-not-sizes-fit.ensures)).1, c.in-Ok.ensures.2)
+pub first_not_part_once-requires : goal.first_not_part_once-requires
+first_not_part_once-requires c = ((sized_tells _ _ (sym c.if-not-sizes_fit.ensures)).1, c.in-Ok.ensures.2)
 
 pub returns-in-Some : goal.returns-in-Some
 returns-in-Some c =
-    told_use c.args.raw.now c.args.constants c.in-Ok.places c.in-Ok.ensures.1 (sym c.if-not-sizes-fit.ensures) (sym c.in-Ok.ensures.0)
+    told_use c.args.raw.now c.args.constants c.in-Ok.places c.in-Ok.ensures.1 (sym c.if-not-sizes_fit.ensures) (sym c.in-Ok.ensures.0)
     c.in-Some.place c.in-Some.ensures
 
-pub level-table-levels-requires : goal.level-table-levels-requires
-level-table-levels-requires c =
-    let s = sized_tells _ _ (sym c.if-not-sizes-fit.ensures) in
+pub level_table-levels-requires : goal.level_table-levels-requires
+level_table-levels-requires c =
+    let s = sized_tells _ _ (sym c.if-not-sizes_fit.ensures) in
     record {
       sized = (s.0, s.1);
       low = c.in-Ok.ensures.2;
-      once = all_pass (part_once c.in-Ok.places (length c.args.raw.now)) (length c.args.raw.now) c.in-default.ensures;
+      once = all_pass (part_once c.in-Ok.places (length c.args.raw.now)) (length c.args.raw.now) c.in_default.ensures;
     }
 
-pub returns-in-Some-first-out-of-range : goal.returns-in-Some-first-out-of-range
-returns-in-Some-first-out-of-range c =
-    told_range c.args.raw.now c.args.constants c.in-Ok.places c.in-Ok.ensures.1 (sym c.if-not-sizes-fit.ensures) (sym c.in-Ok.ensures.0)
-    c.in-default.ensures c.in-Some-first-out-of-range.place c.in-Some-first-out-of-range.ensures
+pub returns-in-Some-first_out_of_range : goal.returns-in-Some-first_out_of_range
+returns-in-Some-first_out_of_range c =
+    told_range c.args.raw.now c.args.constants c.in-Ok.places c.in-Ok.ensures.1 (sym c.if-not-sizes_fit.ensures) (sym c.in-Ok.ensures.0)
+    c.in_default.ensures c.in-Some-first_out_of_range.place c.in-Some-first_out_of_range.ensures
 
-pub in-set-table-in-sets-requires : goal.in-set-table-in-sets-requires
-in-set-table-in-sets-requires c = c.in-Ok.ensures.2
+pub in_set_table-in_sets-requires : goal.in_set_table-in_sets-requires
+in_set_table-in_sets-requires c = c.in-Ok.ensures.2
 
-pub out-set-table-out-sets-requires : goal.out-set-table-out-sets-requires
-out-set-table-out-sets-requires c = c.in-Ok.ensures.2
+pub out_set_table-out_sets-requires : goal.out_set_table-out_sets-requires
+out_set_table-out_sets-requires c = c.in-Ok.ensures.2
 
-pub first-sets-unfit-requires : goal.first-sets-unfit-requires
-first-sets-unfit-requires c =
+pub first_sets_unfit-requires : goal.first_sets_unfit-requires
+first_sets_unfit-requires c =
     record {
-      sized = (sized_tells _ _ (sym c.if-not-sizes-fit.ensures)).1;
+      sized = (sized_tells _ _ (sym c.if-not-sizes_fit.ensures)).1;
       low = c.in-Ok.ensures.2;
-      entering = c.in-set-table-in-sets.ensures;
-      leaving = c.out-set-table-out-sets.ensures;
+      entering = c.in_set_table-in_sets.ensures;
+      leaving = c.out_set_table-out_sets.ensures;
     }
 
-pub returns-in-Some-first-sets-unfit : goal.returns-in-Some-first-sets-unfit
-returns-in-Some-first-sets-unfit c =
-    told_sets c.args.raw.now c.args.constants c.in-Ok.places c.in-Ok.ensures.1 (sym c.if-not-sizes-fit.ensures) (sym c.in-Ok.ensures.0)
-    c.in-default.ensures c.in-default-first-out-of-range.ensures c.in-Some-first-sets-unfit.place c.in-Some-first-sets-unfit.ensures
+pub returns-in-Some-first_sets_unfit : goal.returns-in-Some-first_sets_unfit
+returns-in-Some-first_sets_unfit c =
+    told_sets c.args.raw.now c.args.constants c.in-Ok.places c.in-Ok.ensures.1 (sym c.if-not-sizes_fit.ensures) (sym c.in-Ok.ensures.0)
+    c.in_default.ensures c.in_default-first_out_of_range.ensures c.in-Some-first_sets_unfit.place c.in-Some-first_sets_unfit.ensures
 
-pub invariant-of-result : goal.invariant-of-result
-invariant-of-result c =
+pub invariant_of-result : goal.invariant_of-result
+invariant_of-result c =
     let raw = c.args.raw.now in
     let n = length raw in
     let ps = c.in-Ok.places in
     let is = c.in-Ok.ensures.1 in
     let low = c.in-Ok.ensures.2 in
-    let s = sized_tells n c.args.constants (sym c.if-not-sizes-fit.ensures) in
-    let once = all_pass (part_once ps n) n c.in-default.ensures in
-    let ranged = all_pass (range_kept ps n c.args.constants) n c.in-default-first-out-of-range.ensures in
-    let agree = all_pass (sets_agree ps n) n c.in-default-first-sets-unfit.ensures in (
-      ap length is ∙ length_padded raw s.1,
-      (
-        s.0,
-        (
-          s.1,
-          (
-            s.2,
-            (
-              (λ k l. ap (λ (t : List Form). get_or t k Zero) is ∙ padded_past raw k l),
-              (
-                low,
-                (
-                  once,
-                  (
-                    c.level-table-levels.ensures,
-                    (
-                      ranged,
-                      (
-                        c.in-set-table-in-sets.ensures,
-                        (
-                          c.out-set-table-out-sets.ensures,
-                          (kept ps low n once c.args.constants s.0 ranged agree, tt),
-                        ),
-                      ),
-                    ),
-                  ),
-                ),
-              ),
-            ),
-          ),
-        ),
-      ),
-    )
+    let s = sized_tells n c.args.constants (sym c.if-not-sizes_fit.ensures) in
+    let once = all_pass (part_once ps n) n c.in_default.ensures in
+    let ranged = all_pass (range_kept ps n c.args.constants) n c.in_default-first_out_of_range.ensures in
+    let agree = all_pass (sets_agree ps n) n c.in_default-first_sets_unfit.ensures in
+    record {
+      sized = ap length is ∙ length_padded raw s.1;
+      some = s.0;
+      counted = s.1;
+      few_constants = s.2;
+      rest = λ k l. ap (λ (t : List Form). get_or t k Zero) is ∙ padded_past raw k l;
+      lower_parts = low;
+      once = once;
+      levels_of = c.level_table-levels.ensures;
+      ranged = ranged;
+      ins_of = c.in_set_table-in_sets.ensures;
+      outs_of = c.out_set_table-out_sets.ensures;
+      rules = kept ps low n once c.args.constants s.0 ranged agree;
+    }
 
 pub returns : goal.returns
 returns c = (
-  told_admitted c.args.raw.now c.args.constants c.in-Ok.places c.in-Ok.ensures.1 (sym c.if-not-sizes-fit.ensures) (sym c.in-Ok.ensures.0)
-      c.in-default.ensures c.in-default-first-out-of-range.ensures c.in-default-first-sets-unfit.ensures,
+  told_admitted c.args.raw.now c.args.constants c.in-Ok.places c.in-Ok.ensures.1 (sym c.if-not-sizes_fit.ensures) (sym c.in-Ok.ensures.0)
+      c.in_default.ensures c.in_default-first_out_of_range.ensures c.in_default-first_sets_unfit.ensures,
   record {
     table = c.in-Ok.ensures.1;
     size = refl;

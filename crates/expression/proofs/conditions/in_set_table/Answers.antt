@@ -1,4 +1,4 @@
-use Rattle.std.proofs.Common.{ℕ, ◌<◌, length, arith, length-set}
+use Rattle.std.proofs.Common.{◌<◌, length, arith, length-set}
 use Rattle.expression.specs.Forms.{tree_at, ins}
 use Rattle.expression.specs.Sets.{entered}
 use Rattle.expression.proofs.Entering.{sets_more, ins_at, entered_same}
@@ -10,5 +10,5 @@ loop-place-preserved c =
     let lt : c.loop-place.place < length c.loop-place.sets = omega arith in (
       simp length-set c.loop-place.invariant.0,
       sets_more ps c.requires entered (λ e. ins (tree_at ps e)) entered_same (ins_at ps c.requires) c.loop-place.sets c.loop-place.place
-          c.in-set-of-set.result lt c.loop-place.invariant.1 c.in-set-of-set.ensures,
+          c.in_set_of-set.result lt c.loop-place.invariant.1 c.in_set_of-set.ensures,
     )

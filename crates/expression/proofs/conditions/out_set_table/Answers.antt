@@ -1,4 +1,4 @@
-use Rattle.std.proofs.Common.{ℕ, ◌<◌, length, arith, length-set}
+use Rattle.std.proofs.Common.{◌<◌, length, arith, length-set}
 use Rattle.expression.specs.Forms.{tree_at, outs}
 use Rattle.expression.specs.Sets.{left_open}
 use Rattle.expression.proofs.Entering.{sets_more, outs_at, left_open_same}
@@ -10,5 +10,5 @@ loop-place-preserved c =
     let lt : c.loop-place.place < length c.loop-place.sets = omega arith in (
       simp length-set c.loop-place.invariant.0,
       sets_more ps c.requires left_open (λ e. outs (tree_at ps e)) left_open_same (outs_at ps c.requires) c.loop-place.sets c.loop-place.place
-          c.out-set-of-set.result lt c.loop-place.invariant.1 c.out-set-of-set.ensures,
+          c.out_set_of-set.result lt c.loop-place.invariant.1 c.out_set_of-set.ensures,
     )

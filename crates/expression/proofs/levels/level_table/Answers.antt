@@ -1,9 +1,9 @@
-use Rattle.std.proofs.Common.{◌≡◌, ℕ, suc, ◌-◌, ◌<◌, ◌≤◌, length, get_or, replicate, sym, refl, ap, ◌∙◌, ⊎_elim, arith}
-use Rattle.std.proofs.lemmas.List.{get_or-replicate, get_or_past, length-replicate}
+use Rattle.std.proofs.Common.{◌≡◌, ℕ, ◌-◌, ◌<◌, ◌≤◌, get_or, replicate, refl, ⊎_elim, arith}
+use Rattle.std.proofs.lemmas.List.{get_or-replicate, get_or_past}
 use Rattle.std.proofs.lemmas.Bool.{cases_lt}
 use Rattle.expression.specs.declared.form.Form.TheVariants.{Zero}
 use Rattle.expression.specs.Parts.{parts_of, times}
-use Rattle.expression.proofs.Levelling.{Levelled, raised_bound, levelled_at, levelled_more}
+use Rattle.expression.proofs.Levelling.{raised_bound, levelled_at, levelled_more}
 use Rattle.expression.proofs.levels.level_table.Goals as goal
 
 none_yet : (p : ℕ) → ◌≡◌ {A = ℕ} (get_or (replicate 64 0) p 0) 0
@@ -29,12 +29,12 @@ loop-place-preserved c =
       (λ p.
           ⊎_elim
           (λ (z : 0 < times p (parts_of (get_or ps i Zero))).
-          omega (arith, c.give-levels.ensures.parts p z, raised_bound (get_or ps i Zero) p (get_or c.loop-place.levels i 0), inv.1 i))
-          (λ (z : times p (parts_of (get_or ps i Zero)) ≤ 0). omega (arith, c.give-levels.ensures.others p (omega arith), inv.1 p))
+          omega (arith, c.give_levels.ensures.parts p z, raised_bound (get_or ps i Zero) p (get_or c.loop-place.levels i 0), inv.1 i))
+          (λ (z : times p (parts_of (get_or ps i Zero)) ≤ 0). omega (arith, c.give_levels.ensures.others p (omega arith), inv.1 p))
           (cases_lt 0 (times p (parts_of (get_or ps i Zero))))),
-      levelled_more ps c.requires.low c.args.count c.requires.once i c.loop-place.levels c.give-levels.new.levels (omega arith)
+      levelled_more ps c.requires.low c.args.count c.requires.once i c.loop-place.levels c.give_levels.new.levels (omega arith)
           (inv.2.0, λ r p m k w. inv.2.1 r p (omega arith) k w)
-          c.give-levels.ensures.parts c.give-levels.ensures.others,
+          c.give_levels.ensures.parts c.give_levels.ensures.others,
     )
 
 pub returns : goal.returns

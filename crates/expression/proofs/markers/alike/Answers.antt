@@ -1,4 +1,4 @@
-use Rattle.std.proofs.Common.{◌≡◌, false, get_or, sym, refl, ◌∙◌, arith}
+use Rattle.std.proofs.Common.{false, get_or, sym, refl, ◌∙◌, arith}
 use Rattle.std.proofs.lemmas.Bool.{not-true, not-false}
 use Rattle.expression.specs.Markers.{alike, equal_flags}
 use Rattle.expression.proofs.Sets.{flags_pass, flags_fail, flags_end, flags_beq}

@@ -1,4 +1,4 @@
-use Rattle.std.proofs.Common.{◌≡◌, Bool, not, ◌&&◌, get_or, refl, ap₂, arith}
+use Rattle.std.proofs.Common.{Bool, not, ◌&&◌, refl, ap₂, arith}
 use Rattle.expression.specs.Markers.{apart}
 use Rattle.expression.proofs.Sets.{flags_pass, flags_fail, flags_end}
 use Rattle.expression.proofs.markers.apart.Goals as goal

@@ -1,4 +1,4 @@
-use Rattle.std.proofs.Common.{◌≡◌, ◌<◌, ◌≤◌, false, ◌||◌, length, get_or, sym, refl, ◌∙◌, arith, length-set}
+use Rattle.std.proofs.Common.{◌≡◌, ◌<◌, false, ◌||◌, length, get_or, ◌∙◌, arith, length-set}
 use Rattle.expression.specs.Markers.{both}
 use Rattle.expression.proofs.Filling.{filled_more}
 use Rattle.expression.proofs.Sets.{both_at, both_from}

@@ -1,8 +1,7 @@
-use Rattle.std.proofs.Common.{◌≡◌, ℕ, ◌<◌, ◌≤◌, List, length, get_or, sym, refl, ap, ◌∙◌, subst, arith}
+use Rattle.std.proofs.Common.{ℕ, ◌<◌, ◌≤◌, List, length, get_or, sym, refl, ap, ◌∙◌, subst, arith}
 use Rattle.std.proofs.lemmas.List.{get_or-replicate}
 use Rattle.expression.specs.declared.form.Form.TheVariants.{Zero}
-use Rattle.expression.specs.Parts.{Below, parts_of, times, uses}
-use Rattle.expression.specs.Listed.{listed}
+use Rattle.expression.specs.Parts.{Below, parts_of, times}
 use Rattle.expression.proofs.Occurring.{below_at}
 use Rattle.expression.proofs.Counting.{uses_none, uses_more, below_further, counts_small}
 use Rattle.expression.proofs.uses.count_uses.Goals as goal
@@ -10,8 +9,8 @@ use Rattle.expression.proofs.uses.count_uses.Goals as goal
 pub loop-place-init : goal.loop-place-init
 loop-place-init c = (refl, λ p l. get_or-replicate 64 p 0 0 l ∙ sym (uses_none c.args.table.now p))
 
-pub count-parts-requires : goal.count-parts-requires
-count-parts-requires c =
+pub count_parts-requires : goal.count_parts-requires
+count_parts-requires c =
     let ps = c.args.table.now in
     let i = c.loop-place.place in
     let h : i ≤ length c.loop-place.counts = omega arith in (
@@ -27,7 +26,7 @@ loop-place-preserved c =
       omega arith,
       λ p l.
           let h : p < length c.loop-place.counts = omega arith in
-          let e = c.count-parts.ensures p h in
+          let e = c.count_parts.ensures p h in
           let f = c.loop-place.invariant.1 p l in
           let g = uses_more ps i p in
           let k = ap (times p) c.parts.ensures in

@@ -1,4 +1,4 @@
-use Rattle.std.proofs.Common.{◌≡◌, Some, sym, ap, ◌∙◌, arith, below_more}
+use Rattle.std.proofs.Common.{Some, sym, ap, ◌∙◌, arith, below_more}
 use lib.ListN.{length-map}
 use Rattle.kinds.proofs.Places.{nth_map_read, some_back, not_both}
 use Rattle.kinds.proofs.classes.lowest_same.Goals as goal

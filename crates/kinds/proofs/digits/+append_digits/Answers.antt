@@ -7,8 +7,8 @@ use Rattle.kinds.specs.Spelled.{spelled_more, spelled_one, fewer, shrinks}
 use Rattle.kinds.proofs.digits.+append_digits.Goals as goal
 use Rattle.kinds.proofs.digits.+append_digits.Goals.{then-width-gt1, else-width-gt1+else-base-n}
 
-pub append-digits-requires : goal.append-digits-requires
-append-digits-requires t c =
+pub append_digits-requires : goal.append_digits-requires
+append_digits-requires t c =
     let b = c.args.base in
     let w = c.args.width in
     let n = c.args.n in
@@ -17,7 +17,7 @@ append-digits-requires t c =
     let whole = spelled_more b w n c.requires.base.0 more c.requires.some in
     let long : length (spelled b w n) ≡ length (spelled b c.max.result (n / b)) + 1 = fewer b w n c.max.result max-is whole in
     let less : c.max.result + n / b < w + n = shrinks b w n c.max.result c.requires.base.0 c.requires.some max-is more in
-    (omega (arith, less, c.decreases), (c.requires.base.0, (c.requires.base.1, (omega arith, omega (arith, long, c.requires.room)))))
+    (omega (arith, less, c.decreases), (c.requires.base, (omega arith, omega (arith, long, c.requires.room))))
 
 -- from a list that has the front, the append of the last digit makes the whole
 last_one : (b w n : ℕ) (old mid new : Bounded ℕ) (front : List ℕ) (g : ℕ) → g ≡ glyph_of (n % b) → spelled b w n ≡ front ++ (glyph_of (n % b) ∷ []) → length (held old) + length (spelled b w n) ≤ room old → Appended old mid front → (length (held mid) < room mid → Appended mid new (g ∷ [])) → Appended old new (spelled b w n)
@@ -45,7 +45,7 @@ returns t c =
           let front = spelled b v.max.result (n / b) in
           let whole : spelled b w n ≡ front ++ (glyph_of (n % b) ∷ []) =
           spelled_more b w n c.requires.base.0 more c.requires.some ∙ sym (ap (λ (k : ℕ). spelled b k (n / b) ++ (glyph_of (n % b) ∷ [])) v.max.ensures) in
-          let so_far : Appended old mid front = subst (λ (l : Bounded ℕ). Appended old l front) (sym v.list-is) v.append-digits.ensures in
+          let so_far : Appended old mid front = subst (λ (l : Bounded ℕ). Appended old l front) (sym v.list-is) v.append_digits.ensures in
           last_one b w n old mid new front g c.glyph.ensures whole c.requires.room so_far one
       | else-width-gt1+else-base-n v ↦
           let so_far : Appended old mid [] = subst (λ (l : Bounded ℕ). Appended old l []) (sym v.list-is) (appended_none old) in

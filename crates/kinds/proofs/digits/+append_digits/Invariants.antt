@@ -1,5 +1,5 @@
 use Rattle.std.proofs.Common.{◌+◌}
 use Rattle.kinds.proofs.digits.+append_digits.Given as goal
 
-abbrev pub decreases-append-digits : goal.decreases-append-digits
-decreases-append-digits l = l.width + l.n
+abbrev pub decreases-append_digits : goal.decreases-append_digits
+decreases-append_digits l = l.width + l.n

@@ -1,4 +1,4 @@
-use Rattle.std.proofs.Common.{◌≡◌, ℕ, ◌+◌, ◌*◌, ◌^◌, ◌<◌, ◌≤◌, List, [], ◌∷◌, ◌++◌, map, length, get_or, take, sym, ap, ◌∙◌, subst, mul-le-mul_left, arith, length-take}
+use Rattle.std.proofs.Common.{◌≡◌, ℕ, ◌+◌, ◌*◌, ◌^◌, ◌<◌, ◌≤◌, List, map, length, get_or, take, sym, ap, ◌∙◌, subst, mul-le-mul_left, arith, length-take}
 use lib.ListN.{length-map}
 use Rattle.std.specs.Int.Digits.{AllBelowBase, number_from_digits}
 use Rattle.std.proofs.lemmas.Int.Digits.{number_push}
@@ -22,14 +22,14 @@ pub returns-then-base-digit : goal.returns-then-base-digit
 returns-then-base-digit c =
     stray c.args.base c.args.bytes.now c.loop-byte.byte-index c.loop-byte-test.true (omega (arith, c.value-digit.ensures))
 
-pub overflow-mul-n : goal.overflow-mul-n
-overflow-mul-n c =
+pub overflow_mul-n : goal.overflow_mul-n
+overflow_mul-n c =
     let small = so_far c.args.base c.args.bytes.now c.loop-byte.byte-index c.requires.base.1 c.requires.few c.loop-byte.invariant.0 in
     let times = mul-le-mul_left c.loop-byte.n c.requires.base.1 in
     omega (arith, small, times)
 
-pub overflow-add-n : goal.overflow-add-n
-overflow-add-n c =
+pub overflow_add-n : goal.overflow_add-n
+overflow_add-n c =
     let small = so_far c.args.base c.args.bytes.now c.loop-byte.byte-index c.requires.base.1 c.requires.few c.loop-byte.invariant.0 in
     let times = mul-le-mul_left c.loop-byte.n c.requires.base.1 in
     omega (arith, small, times)
@@ -48,8 +48,8 @@ loop-byte-preserved c =
       ap (λ (n : ℕ). n * b + c.value-digit.result) c.loop-byte.invariant.1 ∙ ap (λ (x : ℕ). number_from_digits b ds * b + x) is ∙ sym (ap (number_from_digits b) more ∙ number_push b ds d),
     )
 
-pub overflow-cast-result : goal.overflow-cast-result
-overflow-cast-result c =
+pub overflow_cast-result : goal.overflow_cast-result
+overflow_cast-result c =
     omega (arith, c.loop-byte.invariant.1, so_far c.args.base c.args.bytes.now c.loop-byte.byte-index c.requires.base.1 c.requires.few c.loop-byte.invariant.0)
 
 pub returns : goal.returns

@@ -3,8 +3,8 @@ use Rattle.bounded.specs.Lists.{Appended}
 use Rattle.bounded.proofs.Appends.{appended_one, appended_two, appended_then, appended_long}
 use Rattle.kinds.proofs.setting.append_field.Goals as goal
 
-pub append-digits-requires : goal.append-digits-requires
-append-digits-requires c =
+pub append_digits-requires : goal.append_digits-requires
+append_digits-requires c =
     let old = c.args.list.now in
     let mid = c.append.new.self in
     let new = c.append-2.new.self in
@@ -29,4 +29,4 @@ returns c =
     (appended_one old mid c.args.letter one.value one.items one.rest one.size one.lender)
     (appended_one mid new 58 two.value two.items two.rest two.size two.lender)
     (omega (arith, c.requires.room)))
-    c.append-digits.ensures
+    c.append_digits.ensures

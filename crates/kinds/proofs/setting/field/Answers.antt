@@ -1,8 +1,7 @@
-use Rattle.std.proofs.Common.{◌≡◌, ℕ, ◌-◌, ◌≤◌, List, ◌∷◌, map, length, take, drop, Some, None, Option, sym, ap, ◌∙◌, subst, arith, MatchOption}
+use Rattle.std.proofs.Common.{◌≡◌, ℕ, ◌-◌, ◌≤◌, List, map, length, take, drop, Some, None, Option, sym, ap, ◌∙◌, subst, MatchOption}
 use Rattle.std.proofs.lemmas.List.{take_rest}
 use Rattle.std.specs.Int.Digits.{AllBelowBase, number_from_digits}
 use Rattle.kinds.specs.Digits.{value_of, spelled}
-use Rattle.kinds.specs.Settings.{Reads}
 use Rattle.kinds.specs.Spelled.{under_spelled, number_spelled}
 use Rattle.kinds.proofs.setting.field.Goals as goal
 
@@ -18,6 +17,6 @@ returns c =
     let bs = c.args.bytes.now in
     let rest : take (length bs - 2) (drop 2 bs) ≡ drop 2 bs = take_rest bs 2 in
     record {
-      finds = λ w n few e. read_back c.args.base (take (length bs - 2) (drop 2 bs)) c.read-digits.result c.requires.0 c.read-digits.ensures w n (ap (drop 2) e ∙ sym rest);
+      finds = λ w n few e. read_back c.args.base (take (length bs - 2) (drop 2 bs)) c.read_digits.result c.requires.0 c.read_digits.ensures w n (ap (drop 2) e ∙ sym rest);
       begins = λ n is. c.if-bytes-letter.false;
     }

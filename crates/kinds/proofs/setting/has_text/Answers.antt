@@ -1,4 +1,4 @@
-use Rattle.std.proofs.Common.{◌≡◌, ℕ, ◌-◌, List, length, take, Some, sym, refl, ap, ◌∙◌}
+use Rattle.std.proofs.Common.{◌≡◌, ℕ, ◌-◌, length, take, Some, sym, refl, ap, ◌∙◌}
 use native.Mathlib.Nat.{sub-zero}
 use Rattle.std.proofs.lemmas.Slice.Eq.{slice_eq-Decides}
 use Rattle.kinds.specs.Settings.{setting_text}
@@ -13,7 +13,7 @@ returns-in-Some c =
     let n = c.in-Some.len in
     let wrote = c.in-Some.ensures in
     let len : n ≡ length t = some_same (Some n) n (length t) refl wrote.value in
-    let front : take (n - 0) c.write-text.new.out ≡ t =
-    ap (λ (k : ℕ). take k c.write-text.new.out) (sub-zero n) ∙ ap (take n) wrote.after ∙ text_first t _ n len in
+    let front : take (n - 0) c.write_text.new.out ≡ t =
+    ap (λ (k : ℕ). take k c.write_text.new.out) (sub-zero n) ∙ ap (take n) wrote.after ∙ text_first t _ n len in
     let d = slice_eq-Decides Decides-eqb _ _ _ c.eq.ensures in
     (λ yes-eq. sym front ∙ d.0 yes-eq, λ e. d.1 (front ∙ e))

@@ -1,4 +1,4 @@
-use Rattle.std.proofs.Common.{◌≡◌, map, length, refl}
+use Rattle.std.proofs.Common.{◌≡◌, map, length}
 use lib.ListN.{length-map}
 use Rattle.listing.specs.Answers.{meaning_of}
 use Rattle.listing.proofs.Lists.{class_after}
@@ -10,4 +10,4 @@ returns-in-Ok g c =
     let earlier = c.args.earlier.now in
     let long : length earlier ≡ length (map m earlier) = rw length-map in
     let read = c.in-Ok.ensures.value in
-    (read.0, read.1, class_after (map m earlier) _ _ c.lowest-line.result _ long c.lowest-line.ensures c.unwrap-or-class.ensures)
+    (read.0, read.1, class_after (map m earlier) _ _ c.lowest_line.result _ long c.lowest_line.ensures c.unwrap_or-class.ensures)

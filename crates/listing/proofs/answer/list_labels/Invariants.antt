@@ -1,5 +1,4 @@
-use Rattle.std.proofs.Common.{◌≡◌, ℕ, List, ◌++◌, length, vec_items}
-use Rattle.listing.specs.Answers.{Listed}
+use Rattle.std.proofs.Common.{length, vec_items}
 use Rattle.listing.specs.Lines.{lines_of}
 use Rattle.listing.proofs.Lists.{Progress}
 use Rattle.listing.proofs.answer.list_labels.Given as goal

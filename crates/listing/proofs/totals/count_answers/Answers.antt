@@ -1,4 +1,4 @@
-use Rattle.std.proofs.Common.{◌≡◌, length, drop, ap, ◌∙◌, arith}
+use Rattle.std.proofs.Common.{ap, arith}
 use Rattle.std.proofs.lemmas.List.{drop_all}
 use Rattle.listing.specs.Totals.{labels_in, distinct_in, refused_in}
 use Rattle.listing.proofs.Counts.{count_more, labels_add, distinct_add, refused_add}
@@ -11,7 +11,7 @@ loop-i-preserved g c =
     let x = c.index-answers-i.result in
     let lt = c.loop-i-test.true in
     let is = c.index-answers-i.is in
-    let n = c.one-more-totals.ensures in
+    let n = c.one_more-totals.ensures in
     let labels = count_more (λ k as'. labels_in as') labels_add xs i x lt is in
     let distinct = count_more distinct_in distinct_add xs i x lt is in
     let refused = count_more (λ k as'. refused_in as') refused_add xs i x lt is in

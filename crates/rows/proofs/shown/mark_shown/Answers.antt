@@ -19,40 +19,40 @@ loop-node-init c = (
   refl,
 )
 
-pub mark-near-requires : goal.mark-near-requires
-mark-near-requires c =
+pub mark_near-requires : goal.mark_near-requires
+mark_near-requires c =
     record {
       fit = c.requires.fit;
       linked = c.requires.linked;
-      within = taken_below (steps c.args.arrows.now 1024) c.args.root c.in-Some.node c.loop-node.shown c.loop-node.todo (held c.take-last.new.todo) c.in-Some.ensures.list c.loop-node.invariant.0;
+      within = taken_below (steps c.args.arrows.now 1024) c.args.root c.in-Some.node c.loop-node.shown c.loop-node.todo (held c.take_last.new.todo) c.in-Some.ensures.list c.loop-node.invariant.0;
       slots = c.loop-node.invariant.1;
     }
 
-pub mark-heads-requires : goal.mark-heads-requires
-mark-heads-requires c =
-    record { fit = c.requires.fit; ready = ready_taken c.loop-node.shown c.loop-node.todo c.take-last.new.todo c.in-Some.node c.in-Some.ensures.list c.in-Some.ensures.lies c.loop-node.invariant.0.ready }
+pub mark_heads-requires : goal.mark_heads-requires
+mark_heads-requires c =
+    record { fit = c.requires.fit; ready = ready_taken c.loop-node.shown c.loop-node.todo c.take_last.new.todo c.in-Some.node c.in-Some.ensures.list c.in-Some.ensures.lies c.loop-node.invariant.0.ready }
 
 pub loop-node-smaller : goal.loop-node-smaller
 loop-node-smaller c =
     let arrows = c.args.arrows.now in
-    let ws = heads_by c.mark-near.new.marks arrows in
-    walked_less (steps arrows 1024) c.args.root c.in-Some.node ws c.loop-node.shown c.mark-heads.new.shown c.loop-node.todo c.take-last.new.todo c.mark-heads.new.todo
-    c.in-Some.ensures.list c.mark-heads.ensures.marked c.mark-heads.ensures.list (heads_by_within c.mark-near.new.marks arrows c.requires.fit) c.loop-node.invariant.0
+    let ws = heads_by c.mark_near.new.marks arrows in
+    walked_less (steps arrows 1024) c.args.root c.in-Some.node ws c.loop-node.shown c.mark_heads.new.shown c.loop-node.todo c.take_last.new.todo c.mark_heads.new.todo
+    c.in-Some.ensures.list c.mark_heads.ensures.marked c.mark_heads.ensures.list (heads_by_within c.mark_near.new.marks arrows c.requires.fit) c.loop-node.invariant.0
 
 pub loop-node-preserved : goal.loop-node-preserved
 loop-node-preserved c =
     let arrows = c.args.arrows.now in
-    let near = c.mark-near.new.marks in
+    let near = c.mark_near.new.marks in
     let v = c.in-Some.node in
     let s = c.loop-node.invariant.0 in
-    let lv : v < 1024 = taken_below (steps arrows 1024) c.args.root v c.loop-node.shown c.loop-node.todo (held c.take-last.new.todo) c.in-Some.ensures.list s in (
-      walked_more (steps arrows 1024) c.args.root v (heads_by near arrows) c.loop-node.shown c.mark-heads.new.shown c.loop-node.todo c.take-last.new.todo c.mark-heads.new.todo
-          c.in-Some.ensures.list c.mark-heads.ensures.marked c.mark-heads.ensures.list (heads_by_within near arrows c.requires.fit) s
-          (heads_in arrows 1024 v near c.requires.fit c.mark-near.ensures) (heads_of arrows 1024 v near c.requires.fit c.mark-near.ensures lv)
-          c.in-Some.ensures.lies c.mark-heads.ensures.lies,
-      c.mark-near.auto.slots ∙ c.loop-node.invariant.1,
+    let lv : v < 1024 = taken_below (steps arrows 1024) c.args.root v c.loop-node.shown c.loop-node.todo (held c.take_last.new.todo) c.in-Some.ensures.list s in (
+      walked_more (steps arrows 1024) c.args.root v (heads_by near arrows) c.loop-node.shown c.mark_heads.new.shown c.loop-node.todo c.take_last.new.todo c.mark_heads.new.todo
+          c.in-Some.ensures.list c.mark_heads.ensures.marked c.mark_heads.ensures.list (heads_by_within near arrows c.requires.fit) s
+          (heads_in arrows 1024 v near c.requires.fit c.mark_near.ensures) (heads_of arrows 1024 v near c.requires.fit c.mark_near.ensures lv)
+          c.in-Some.ensures.lies c.mark_heads.ensures.lies,
+      c.mark_near.auto.slots ∙ c.loop-node.invariant.1,
     )
 
 pub returns : goal.returns
 returns c =
-    walked_end (steps c.args.arrows.now 1024) c.args.root c.loop-node.shown c.loop-node.todo c.in-default.ensures.list.0 c.loop-node.invariant.0
+    walked_end (steps c.args.arrows.now 1024) c.args.root c.loop-node.shown c.loop-node.todo c.in_default.ensures.list.0 c.loop-node.invariant.0

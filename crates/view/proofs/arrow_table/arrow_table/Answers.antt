@@ -1,9 +1,9 @@
-use Rattle.std.proofs.Common.{◌≡◌, ℕ, ◌+◌, ◌<◌, ◌≤◌, List, length, take, vec_items, sym, ap, ◌∙◌, subst, arith, length-set}
+use Rattle.std.proofs.Common.{◌≡◌, ℕ, ◌+◌, ◌<◌, List, length, take, vec_items, sym, ◌∙◌, subst, arith, length-set}
 use Rattle.std.proofs.lemmas.List.{take_all}
 use Rattle.course.specs.declared.course.Arrow.{Arrow}
 use Rattle.view.proofs.Copying.{copied_more, not_past}
 use Rattle.view.proofs.arrow_table.arrow_table.Goals as goal
-use Rattle.view.proofs.arrow_table.arrow_table.Goals.{in-Some, in-default}
+use Rattle.view.proofs.arrow_table.arrow_table.Goals.{in-Some, in_default}
 
 pub returns : goal.returns
 returns c =
@@ -25,5 +25,5 @@ loop-k-preserved c =
     elim c.match-arrow.branch [
       | in-Some w ↦ subst Kept (sym w.table-is)
           (simp length-set c.loop-k.invariant.0, copied_more table items k w.in-Some.arrow room w.in-Some.ensures c.loop-k.invariant.1)
-      | in-default w ↦ absurd (not_past items k there w.in-default.ensures)
+      | in_default w ↦ absurd (not_past items k there w.in_default.ensures)
     ]

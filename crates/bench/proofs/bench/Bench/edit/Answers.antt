@@ -4,7 +4,7 @@ use Rattle.bench.specs.declared.request.Answer.TheVariants as answer
 use Rattle.bench.proofs.Readiness.{unread}
 use Rattle.bench.proofs.bench.Bench.edit.Goals as goal
 
-pub returns-in-err-ready : goal.returns-in-err-ready
-returns-in-err-ready g c =
-    unread g.L.Label.alike c.args.self.now c.args.labels.now c.args.constants.now c.args.asked.now c.args.history.now 0 (ask.Edit c.args.index) c.in-err-ready.field-0.0
-    (sym c.ready.ensures ∙ c.in-err-ready.was) (λ x. answer.Edit x) c.from-residual.result c.from-residual.ensures.1
+pub returns-in_err-ready : goal.returns-in_err-ready
+returns-in_err-ready g c =
+    unread g.L.Label.alike c.args.self.now c.args.labels.now c.args.constants.now c.args.asked.now c.args.history.now 0 (ask.Edit c.args.index) c.in_err-ready.field-0.0
+    (sym c.ready.ensures ∙ c.in_err-ready.was) (λ x. answer.Edit x) c.from_residual.result c.from_residual.ensures.1

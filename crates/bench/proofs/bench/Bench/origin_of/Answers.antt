@@ -1,4 +1,4 @@
-use Rattle.std.proofs.Common.{sym, ap, ◌∙◌}
+use Rattle.std.proofs.Common.{sym, ap}
 use Rattle.rows.specs.declared.row.Row.{Row}
 use Rattle.bench.specs.Reading.{rows_of}
 use Rattle.bench.proofs.Stored.{row_found, row_missing}

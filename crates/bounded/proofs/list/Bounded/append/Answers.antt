@@ -1,4 +1,4 @@
-use Rattle.std.proofs.Common.{◌≡◌, ◌+◌, ◌<◌, sym, refl, ◌∙◌, arith, length-set, length-take}
+use Rattle.std.proofs.Common.{◌+◌, ◌<◌, sym, refl, ◌∙◌, arith, length-set, length-take}
 use Rattle.std.proofs.lemmas.List.{take_more_set, drop-set-lt, drop-drop}
 use Rattle.std.proofs.lemmas.Bool.{lt-ltb, le-ltb}
 use Rattle.bounded.proofs.list.Bounded.append.Goals as goal

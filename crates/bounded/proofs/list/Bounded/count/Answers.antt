@@ -1,4 +1,4 @@
-use Rattle.std.proofs.Common.{◌≡◌, sym, refl, ◌∙◌, length-take}
+use Rattle.std.proofs.Common.{sym, refl, ◌∙◌, length-take}
 use Rattle.bounded.proofs.list.Bounded.count.Goals as goal
 
 pub returns : goal.returns

@@ -1,4 +1,4 @@
-use Rattle.std.proofs.Common.{◌≡◌, take, sym, refl, arith, length-take}
+use Rattle.std.proofs.Common.{take, sym, refl, arith, length-take}
 use Rattle.std.proofs.lemmas.List.{take_all, take-take}
 use Rattle.bounded.proofs.list.Bounded.cut_back.Goals as goal
 

@@ -1,4 +1,4 @@
-use Rattle.std.proofs.Common.{◌≡◌, ℕ, ◌+◌, ◌<◌, ◌≤◌, true, false, List, [], ◌∷◌, ◌++◌, length, get_or, take, sym, refl, ap, ◌∙◌, arith, length-set, rules}
+use Rattle.std.proofs.Common.{◌≡◌, ℕ, ◌<◌, ◌≤◌, true, List, [], ◌∷◌, ◌++◌, length, get_or, take, sym, ap, ◌∙◌, arith, length-set}
 use Rattle.std.proofs.lemmas.List.{take_more, take_more_set, take_all}
 use Rattle.course.specs.Ends.{joins, inside}
 use Rattle.course.specs.Sources.{graph}
@@ -30,27 +30,19 @@ copied es xs k e past end =
     let n : length xs ≡ k = omega arith in
     ap (λ i. take i es) n ∙ e ∙ take_all k xs past
 
-pub invariant-of-result : goal.invariant-of-result
-invariant-of-result c =
+pub invariant_of-result : goal.invariant_of-result
+invariant_of-result c =
     let xs = c.args.arrows.now in
     let k = c.loop-k.k in
     let past : length xs ≤ k = c.loop-k-test.false in
-    let few = sizes c.args.nodes (length xs) (sym c.sized.ensures ∙ c.if-not-sized.false) in (
-      c.loop-k.invariant.0,
-      (
-        few.0,
-        (
-          few.1,
-          (
-            few.2,
-            (
-              ap (inside c.args.nodes) (copied c.loop-k.ends xs k c.loop-k.invariant.1 past c.loop-k.auto.k-end ∙ sym (take_all k xs past)) ∙ c.loop-k.invariant.2,
-              tt,
-            ),
-          ),
-        ),
-      ),
-    )
+    let few = sizes c.args.nodes (length xs) (sym c.sized.ensures ∙ c.if-not-sized.false) in
+    record {
+      long = c.loop-k.invariant.0;
+      some = few.0;
+      few_nodes = few.1;
+      few_arrows = few.2;
+      ends = ap (inside c.args.nodes) (copied c.loop-k.ends xs k c.loop-k.invariant.1 past c.loop-k.auto.k-end ∙ sym (take_all k xs past)) ∙ c.loop-k.invariant.2;
+    }
 
 pub returns : goal.returns
 returns c =

@@ -1,4 +1,4 @@
-use Rattle.std.proofs.Common.{vec_items, ◌∙◌, rules}
+use Rattle.std.proofs.Common.{vec_items, ◌∙◌}
 use Rattle.course.proofs.Entries.{entry, no_entry}
 use Rattle.course.proofs.workspace.Workspace.arrow.Goals as goal
 

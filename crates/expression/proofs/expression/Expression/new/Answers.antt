@@ -2,13 +2,26 @@ use Rattle.std.proofs.Common.{arith}
 use Rattle.expression.proofs.Single.{single_passes}
 use Rattle.expression.proofs.expression.Expression.new.Goals as goal
 
-pub in-set-table-in-sets-requires : goal.in-set-table-in-sets-requires
-in-set-table-in-sets-requires c = (single_passes _ c.one-node-places.ensures).2
+pub in_set_table-in_sets-requires : goal.in_set_table-in_sets-requires
+in_set_table-in_sets-requires c = (single_passes _ c.one_node-places.ensures).2
 
-pub out-set-table-out-sets-requires : goal.out-set-table-out-sets-requires
-out-set-table-out-sets-requires c = (single_passes _ c.one-node-places.ensures).2
+pub out_set_table-out_sets-requires : goal.out_set_table-out_sets-requires
+out_set_table-out_sets-requires c = (single_passes _ c.one_node-places.ensures).2
 
-pub invariant-of-result : goal.invariant-of-result
-invariant-of-result c =
-    let p = single_passes c.one-node-places.result c.one-node-places.ensures in
-    (p.0, (omega arith, (omega arith, (omega arith, (p.1, (p.2, (p.3, (p.4, (p.5, (c.in-set-table-in-sets.ensures, (c.out-set-table-out-sets.ensures, (p.6, tt))))))))))))
+pub invariant_of-result : goal.invariant_of-result
+invariant_of-result c =
+    let p = single_passes c.one_node-places.result c.one_node-places.ensures in
+    record {
+      sized = p.0;
+      some = omega arith;
+      counted = omega arith;
+      few_constants = omega arith;
+      rest = p.1;
+      lower_parts = p.2;
+      once = p.3;
+      levels_of = p.4;
+      ranged = p.5;
+      ins_of = c.in_set_table-in_sets.ensures;
+      outs_of = c.out_set_table-out_sets.ensures;
+      rules = p.6;
+    }

@@ -1,4 +1,4 @@
-use Rattle.std.proofs.Common.{◌≡◌, ◌≤◌, length, sym, arith}
+use Rattle.std.proofs.Common.{◌≤◌, length, sym, arith}
 use Rattle.std.proofs.lemmas.List.{get_or_past}
 use Rattle.expression.specs.declared.form.Form.TheVariants.{Zero}
 use Rattle.expression.proofs.expression.Expression.stored.Goals as goal

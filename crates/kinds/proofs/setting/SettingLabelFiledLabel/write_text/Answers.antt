@@ -1,5 +1,5 @@
-use Rattle.std.proofs.Common.{◌≡◌, length, Some, sym, ap, ◌∙◌, arith, rules}
-use Rattle.bounded.specs.Lists.{held, spare, room}
+use Rattle.std.proofs.Common.{◌≡◌, length, Some, ap, ◌∙◌, arith, rules}
+use Rattle.bounded.specs.Lists.{held}
 use Rattle.bounded.proofs.Appends.{appended_long}
 use Rattle.kinds.specs.Filed.{overlaid}
 use Rattle.kinds.specs.Settings.{setting_text}
@@ -7,18 +7,18 @@ use Rattle.kinds.proofs.Buffers.{long_enough, too_short, listed, listed_room}
 use Rattle.kinds.specs.SettingTexts.{setting_tied}
 use Rattle.kinds.proofs.setting.SettingLabelFiledLabel.write_text.Goals as goal
 
-pub returns-then-out-lt-TEXT-SIZE : goal.returns-then-out-lt-TEXT-SIZE
-returns-then-out-lt-TEXT-SIZE c =
+pub returns-then-out-lt-TEXT_SIZE : goal.returns-then-out-lt-TEXT_SIZE
+returns-then-out-lt-TEXT_SIZE c =
     let n = length c.args.out.now in
     record {
-      value = too_short n _ _ c.if-out-lt-TEXT-SIZE.true;
+      value = too_short n _ _ c.if-out-lt-TEXT_SIZE.true;
       bound = tt;
-      after = too_short n _ _ c.if-out-lt-TEXT-SIZE.true;
+      after = too_short n _ _ c.if-out-lt-TEXT_SIZE.true;
       tied = setting_tied;
     }
 
-pub append-text-requires : goal.append-text-requires
-append-text-requires c =
+pub append_text-requires : goal.append_text-requires
+append_text-requires c =
     let made = c.new-list.ensures in
     let none : length (held c.new-list.result) ≡ 0 = ap length made.items in
     omega (arith, listed_room c.new-list.result made.items made.rest)
@@ -28,14 +28,14 @@ returns c =
     let old = c.args.out.now in
     let t = setting_text c.args.self.now in
     let made = c.new-list.ensures in
-    let text = c.append-text.ensures.text in
-    let slots : c.append-text.new.list.slots.now ≡ overlaid t old = listed old c.new-list.result c.append-text.new.list t made.items made.rest text in
+    let text = c.append_text.ensures.text in
+    let slots : c.append_text.new.list.slots.now ≡ overlaid t old = listed old c.new-list.result c.append_text.new.list t made.items made.rest text in
     let none : length (held c.new-list.result) ≡ 0 = ap length made.items in
     let len : c.count.result ≡ length t = omega (arith, c.count.ensures.value, appended_long text) in
     let same : _ ≡ overlaid t old = search rules in
     record {
-      value = ap (λ k. Some k) len ∙ long_enough (length old) _ _ c.if-out-lt-TEXT-SIZE.false;
-      bound = omega (arith, c.append-text.ensures.short);
-      after = same ∙ long_enough (length old) _ _ c.if-out-lt-TEXT-SIZE.false;
+      value = ap (λ k. Some k) len ∙ long_enough (length old) _ _ c.if-out-lt-TEXT_SIZE.false;
+      bound = omega (arith, c.append_text.ensures.short);
+      after = same ∙ long_enough (length old) _ _ c.if-out-lt-TEXT_SIZE.false;
       tied = setting_tied;
     }

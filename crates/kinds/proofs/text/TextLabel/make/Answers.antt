@@ -5,17 +5,17 @@ use Rattle.kinds.proofs.Makes.{house_more, house_not, bytes_more, made, refused}
 use Rattle.kinds.specs.Trims.{trimmed_house, kept_of}
 use Rattle.kinds.proofs.text.TextLabel.make.Goals as goal
 
-pub returns-then-not-in-house : goal.returns-then-not-in-house
-returns-then-not-in-house c =
+pub returns-then-not-in_house : goal.returns-then-not-in_house
+returns-then-not-in_house c =
     let xs = c.args.text.now in
-    let wrong = house_not xs _ c.loop-i-test.true (sym c.if-not-in-house.ensures) in
+    let wrong = house_not xs _ c.loop-i-test.true (sym c.if-not-in_house.ensures) in
     record { value = refused xs wrong; means = tt; kept = tt }
 
 pub loop-i-preserved : goal.loop-i-preserved
 loop-i-preserved c =
     let xs = c.args.text.now in
     let i = c.loop-i.i in (
-      house_more xs i c.loop-i-test.true c.loop-i.invariant.0 (sym c.if-not-in-house.ensures),
+      house_more xs i c.loop-i-test.true c.loop-i.invariant.0 (sym c.if-not-in_house.ensures),
       bytes_more xs _ i c.loop-i-test.true c.if-text-gt-LONGEST.false c.loop-i.invariant.1,
     )
 

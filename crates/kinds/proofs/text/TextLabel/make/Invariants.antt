@@ -1,4 +1,4 @@
-use Rattle.std.proofs.Common.{◌≡◌, ◌-◌, ◌≤◌, true, ◌++◌, take, replicate}
+use Rattle.std.proofs.Common.{◌≡◌, ◌-◌, true, ◌++◌, take, replicate}
 use Rattle.kinds.specs.Texts.{all_house}
 use Rattle.kinds.proofs.text.TextLabel.make.Given as goal
 

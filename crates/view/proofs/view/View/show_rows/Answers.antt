@@ -1,4 +1,4 @@
-use Rattle.std.proofs.Common.{◌≡◌, ℕ, List, length, take, Ok, Err, vec_items, Result, sym, ap, ◌∙◌, subst}
+use Rattle.std.proofs.Common.{◌≡◌, ℕ, List, length, take, Ok, Err, vec_items, Result, subst}
 use Rattle.course.specs.declared.course.Arrow.{Arrow}
 use Rattle.course.specs.declared.course.Sizes.{Sizes}
 use Rattle.course.specs.declared.workspace.Workspace.{Workspace}
@@ -25,12 +25,12 @@ returns-in-Ok c =
     let w = c.args.self.now.workspace in
     let rows = vec_items c.list.new.self.rows in
     taken (course_of w) c.args.node (seen c.args.self.now) rows (course_fits w c.args.node c.requires)
-    (of_course w c.sizes-sizes.result c.arrow-table-arrows.result c.args.node rows (Ok tt) c.sizes-sizes.ensures c.arrow-table-arrows.ensures.arrows c.in-Ok.ensures.answer)
+    (of_course w c.sizes-sizes.result c.arrow_table-arrows.result c.args.node rows (Ok tt) c.sizes-sizes.ensures c.arrow_table-arrows.ensures.arrows c.in-Ok.ensures.answer)
 
 pub returns-in-Err : goal.returns-in-Err
 returns-in-Err c =
     let w = c.args.self.now.workspace in
     let rows = vec_items c.list.new.self.rows in
     refused (course_of w) c.args.node (seen c.args.self.now) rows (course_fits w c.args.node c.requires) c.in-Err.field-0 (seen c.refuse.new.self) c.refuse.result
-    (of_course w c.sizes-sizes.result c.arrow-table-arrows.result c.args.node rows (Err c.in-Err.field-0) c.sizes-sizes.ensures c.arrow-table-arrows.ensures.arrows c.in-Err.ensures.answer)
+    (of_course w c.sizes-sizes.result c.arrow_table-arrows.result c.args.node rows (Err c.in-Err.field-0) c.sizes-sizes.ensures c.arrow_table-arrows.ensures.arrows c.in-Err.ensures.answer)
     c.refuse.ensures.answer c.refuse.ensures.after

@@ -8,7 +8,7 @@ use Rattle.view.proofs.view.View.show_run.Goals as goal
 pub returns-in-Ok : goal.returns-in-Ok
 returns-in-Ok c =
     let before = seen c.args.self.now in
-    let after = seen c.show-rows.new.self in
-    let r = c.show-rows.result in
+    let after = seen c.show_rows.new.self in
+    let r = c.show_rows.result in
     subst (λ (run : Run ℕ). Answered (pictured run) before after r) (sym c.in-Ok.ensures.told.0)
-    (picture_told c.in-Ok.node (course_of c.run.new.self) _ before after r c.show-rows.ensures)
+    (picture_told c.in-Ok.node (course_of c.run.new.self) _ before after r c.show_rows.ensures)
