@@ -1,6 +1,6 @@
 -- Chains of blank arrows: how they are linked, and that they hold the blank arrows of their node. Assumes nothing.
 use Rattle.std.proofs.Common.{◌≡◌, ℕ, zero, suc, ◌+◌, ◌<◌, ◌≤◌, Bool, true, false, cond, eqb, ◌⊎◌, List, ◌∷◌, map, length, get_or, set, replicate, sym, refl, ap, ◌∙◌, subst, inl, inr, ⊎_elim, add-one, arith}
-use Rattle.std.specs.List.{AllByRecursion as All}
+use Rattle.std.specs.List.{AllByRecursion}
 use Rattle.std.proofs.lemmas.List.{get_or-set_same, get_or-set_other, get_or-replicate, length-replicate, length-set}
 use Rattle.std.proofs.lemmas.Bool.{cases_eq, cases_Bool, and_from, and_left, and_right, and_parts, eq-eqb, ne_eqb, eqb-true, cond-true, cond-false}
 use Rattle.course.specs.declared.course.Arrow.{Arrow}
@@ -185,8 +185,8 @@ in_outs arrows v w i =
     subst (λ (x : ℕ). In x (outs arrows v (length arrows))) h
     (out_at arrows v (length arrows) p.0 p.1 (and_from (blank_at arrows p.0) (eqb (tail_at arrows p.0) v) b (eq-eqb (tail_at arrows p.0) v t)))
 
-pub outs_within : (arrows : List Arrow) (v n : ℕ) → n ≤ length arrows → Fit arrows → All (λ w. w < 1024) (outs arrows v n)
+pub outs_within : (arrows : List Arrow) (v n : ℕ) → n ≤ length arrows → Fit arrows → AllByRecursion (λ w. w < 1024) (outs arrows v n)
 outs_within arrows v zero l f = tt
 outs_within arrows v (suc k) l f =
-    let ih : All (λ w. w < 1024) (outs arrows v k) = outs_within arrows v k (omega arith) f in
-    elim (blank_from arrows v k) as (λ b. All (λ w. w < 1024) (cond b ((get_or arrows k none).head ∷ outs arrows v k) (outs arrows v k))) [ true ↦ (f.heads k (omega arith), ih) | false ↦ ih ]
+    let ih : AllByRecursion (λ w. w < 1024) (outs arrows v k) = outs_within arrows v k (omega arith) f in
+    elim (blank_from arrows v k) as (λ b. AllByRecursion (λ w. w < 1024) (cond b ((get_or arrows k none).head ∷ outs arrows v k) (outs arrows v k))) [ true ↦ (f.heads k (omega arith), ih) | false ↦ ih ]

@@ -1,7 +1,7 @@
 -- What holds of arrows that fit: their ends are in reach of the marks, and the marks of what is shown are exact. Assumes
 -- nothing.
 use Rattle.std.proofs.Common.{◌≡◌, ℕ, zero, suc, ◌+◌, ◌<◌, ◌≤◌, Bool, true, false, ◌&&◌, ltb, leb, List, [], ◌∷◌, map, length, get_or, drop, is_err, Ok, Err, filter, Result, sym, refl, ap, ◌∙◌, subst, arith}
-use Rattle.std.specs.List.{flat_map as joined, AllByRecursion as All}
+use Rattle.std.specs.List.{flat_map as joined, AllByRecursion}
 use Rattle.std.proofs.lemmas.List.{at_drop_more, at_drop_all}
 use Rattle.std.proofs.lemmas.Bool.{and_parts, and_from, leb-true, ltb-true, lt-ltb, lt-leb, le-leb, cond-true, cond-false, both_ways}
 use Rattle.course.specs.declared.course.Arrow.{Arrow}
@@ -60,7 +60,7 @@ fit_of arrows n root h =
       heads = λ k l. omega (arith, (ends_at n arrows k none f.joined l).1, f.nodes);
     }
 
-all_from : (P : ℕ → Type 0) (i n : ℕ) → ((v : ℕ) → v < i + n → P v) → All P (from i n)
+all_from : (P : ℕ → Type 0) (i n : ℕ) → ((v : ℕ) → v < i + n → P v) → AllByRecursion P (from i n)
 all_from P i zero h = tt
 all_from P i (suc n) h = (h i (omega arith), all_from P (suc i) n (λ v l. h v (omega arith)))
 

@@ -1,6 +1,6 @@
 -- The heads of the arrows that lead on from a node are those of its rows. Assumes nothing.
 use Rattle.std.proofs.Common.{◌≡◌, ℕ, ◌+◌, ◌<◌, ◌≤◌, Bool, true, false, cond, not, ◌&&◌, List, [], ◌∷◌, map, length, get_or, drop, set, filter, sym, refl, ap, ◌∙◌, subst, arith}
-use Rattle.std.specs.List.{flat_map, AllByRecursion as All}
+use Rattle.std.specs.List.{flat_map, AllByRecursion}
 use Rattle.std.proofs.lemmas.List.{at_drop_more, at_drop_all}
 use Rattle.std.proofs.ByRecursion.{All-from_get_or, All-map, all_kept_by}
 use Rattle.std.proofs.lemmas.Bool.{cond-true, cond-false}
@@ -81,7 +81,7 @@ module _ (near : List Bool) (arrows : List Arrow) (k : ℕ) (m n : List Bool) (a
       (record { heading = heading_no near arrows k m n (held b) (held a) l y f.heading; ready = f.ready; lies = f.lies }))
 
 -- two tests that agree on every element keep the same
-pub kept_alike : {X : Type 0} (p q : X → Bool) (xs : List X) → All (λ x. p x ≡ q x) xs → filter p xs ≡ filter q xs
+pub kept_alike : {X : Type 0} (p q : X → Bool) (xs : List X) → AllByRecursion (λ x. p x ≡ q x) xs → filter p xs ≡ filter q xs
 kept_alike p q [] h = refl
 kept_alike p q (x ∷ xs) h =
     ap (λ b. cond b (x ∷ filter p xs) (filter p xs)) h.0 ∙ ap (λ (l : List _). cond (q x) (x ∷ l) l) (kept_alike p q xs h.1)
@@ -99,10 +99,10 @@ pub rows_marked : (arrows : List Arrow) (v : ℕ) (m : List Bool) → Fit arrows
 unfolding rows_at
 rows_marked arrows v m f e = ap (λ (z : List Bool). rows_by z v arrows) e ∙ ap (map (row_of v)) (kept_leads arrows v f)
 
-heads_within : (p : Arrow → Bool) (arrows : List Arrow) → All (λ (a : Arrow). a.head < 1024) arrows → All (λ w. w < 1024) (map (λ (a : Arrow). a.head) (filter p arrows))
+heads_within : (p : Arrow → Bool) (arrows : List Arrow) → AllByRecursion (λ (a : Arrow). a.head < 1024) arrows → AllByRecursion (λ w. w < 1024) (map (λ (a : Arrow). a.head) (filter p arrows))
 heads_within p arrows h = All-map (λ w. w < 1024) (λ (a : Arrow). a.head) (filter p arrows) (all_kept_by p (λ (a : Arrow). a.head < 1024) arrows h)
 
-pub heads_by_within : (m : List Bool) (arrows : List Arrow) → Fit arrows → All (λ w. w < 1024) (heads_by m arrows)
+pub heads_by_within : (m : List Bool) (arrows : List Arrow) → Fit arrows → AllByRecursion (λ w. w < 1024) (heads_by m arrows)
 heads_by_within m arrows f = heads_within (leads_by m) arrows (All-from_get_or (λ (a : Arrow). a.head < 1024) arrows none (λ k l. f.heads k l))
 
 row_node : (arrows : List Arrow) (v : ℕ) (r : Row) → In r (rows_at arrows v) → r.node ≡ v

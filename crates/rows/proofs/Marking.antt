@@ -1,6 +1,6 @@
 -- Marks, how many there are, and the list of the marked nodes to visit. Assumes nothing.
 use Rattle.std.proofs.Common.{◌≡◌, ℕ, zero, suc, ◌+◌, ◌<◌, ◌≤◌, Bool, true, false, cond, ◌⊎◌, List, [], ◌∷◌, ◌++◌, length, get_or, set, replicate, sym, refl, ap, ◌∙◌, subst, inl, inr, ⊎_elim, arith, length-set, take-append-drop}
-use Rattle.std.specs.List.{AllByRecursion as All}
+use Rattle.std.specs.List.{AllByRecursion}
 use Rattle.std.proofs.lemmas.List.{get_or-set_same, get_or-set_other, get_or_past, get_or-replicate, length-append, length-replicate}
 use Rattle.std.proofs.lemmas.Bool.{cases_lt, cases_eq, both_ways}
 use Rattle.course.specs.Reach.{In, trues}
@@ -90,11 +90,11 @@ pub counts_on : {m n o : List Bool} {h g f : List ℕ} → Counts m h n g → Co
 counts_on {m} {n} {o} {h} {g} {f} a b =
     record { more = omega (arith, a.more, b.more); even = omega (arith, a.even, b.even); long = b.long ∙ a.long }
 
-pub counts : (vs : List ℕ) (m : List Bool) (h : List ℕ) → All (λ v. v < length m) vs → Counts m h (marks_after vs m) (list_after vs m h)
+pub counts : (vs : List ℕ) (m : List Bool) (h : List ℕ) → AllByRecursion (λ v. v < length m) vs → Counts m h (marks_after vs m) (list_after vs m h)
 counts [] m h l = record { more = omega arith; even = refl; long = refl }
 counts (v ∷ vs) m h l =
     let one = counts_one m v h l.0 in
-    counts_on one (counts vs (set m v true) (listed_after m v h) (subst (λ (n : ℕ). All (λ w. w < n) vs) (sym (length-set m v true)) l.1))
+    counts_on one (counts vs (set m v true) (listed_after m v h) (subst (λ (n : ℕ). AllByRecursion (λ w. w < n) vs) (sym (length-set m v true)) l.1))
 
 pub ready_after : (m n : List Bool) (b c : Bounded ℕ) (i : ℕ) → i < length m → n ≡ set m i true → held c ≡ listed_after m i (held b) → Lies b c → Ready m b → Ready n c
 ready_after m n b c i l e h s r =

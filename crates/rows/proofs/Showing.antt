@@ -1,6 +1,6 @@
 -- The rows computed are the rows, by node and then by arrow, each once. Assumes nothing.
 use Rattle.std.proofs.Common.{◌≡◌, ℕ, zero, suc, ◌+◌, ◌<◌, Bool, true, false, cond, not, ltb, List, [], ◌∷◌, ◌++◌, map, length, get_or, drop, filter, sym, refl, ap, ◌∙◌, subst, inl, inr, not-suc-le-zero, arith}
-use Rattle.std.specs.List.{flat_map, AllByRecursion as All}
+use Rattle.std.specs.List.{flat_map, AllByRecursion}
 use Rattle.std.proofs.lemmas.List.{map-append, get_or-drop, drop-drop}
 use Rattle.std.proofs.ByRecursion.{All-append, all_kept_by}
 use Rattle.std.proofs.lemmas.Bool.{and_parts, and_from, not-true, not_from_false, ltb-true}
@@ -120,9 +120,9 @@ of_in_shown arrows n root u i =
 -- in order
 abbrev Rising : List ℕ → Type 0
 Rising [] = Unit {0}
-Rising (u ∷ us) = All (λ v. u < v) us × Rising us
+Rising (u ∷ us) = AllByRecursion (λ v. u < v) us × Rising us
 
-above_from : (i j n : ℕ) → i < j → All (λ v. i < v) (from j n)
+above_from : (i j n : ℕ) → i < j → AllByRecursion (λ v. i < v) (from j n)
 above_from i j zero h = tt
 above_from i j (suc n) h = (h, above_from i (suc j) n (omega arith))
 
@@ -136,11 +136,11 @@ rising_kept p (u ∷ us) r =
     elim (p u) as (λ b. Rising (cond b (u ∷ filter p us) (filter p us)))
     [ true ↦ (all_kept_by p (λ v. u < v) us r.0, rising_kept p us r.1) | false ↦ rising_kept p us r.1 ]
 
-above_numbers : {X : Type 0} (p : X → Bool) (xs : List X) (j i : ℕ) → j < i → All (λ k. j < k) (numbers p i xs)
+above_numbers : {X : Type 0} (p : X → Bool) (xs : List X) (j i : ℕ) → j < i → AllByRecursion (λ k. j < k) (numbers p i xs)
 above_numbers p [] j i h = tt
 above_numbers p (x ∷ xs) j i h =
-    let k : All (λ n. j < n) (numbers p (suc i) xs) = above_numbers p xs j (suc i) (omega arith) in
-    elim (p x) as (λ b. All (λ n. j < n) (cond b (i ∷ numbers p (suc i) xs) (numbers p (suc i) xs))) [ true ↦ (h, k) | false ↦ k ]
+    let k : AllByRecursion (λ n. j < n) (numbers p (suc i) xs) = above_numbers p xs j (suc i) (omega arith) in
+    elim (p x) as (λ b. AllByRecursion (λ n. j < n) (cond b (i ∷ numbers p (suc i) xs) (numbers p (suc i) xs))) [ true ↦ (h, k) | false ↦ k ]
 
 rising_numbers : {X : Type 0} (p : X → Bool) (xs : List X) (i : ℕ) → Rising (numbers p i xs)
 rising_numbers p [] i = tt
@@ -148,20 +148,20 @@ rising_numbers p (x ∷ xs) i =
     let k : Rising (numbers p (suc i) xs) = rising_numbers p xs (suc i) in
     elim (p x) as (λ b. Rising (cond b (i ∷ numbers p (suc i) xs) (numbers p (suc i) xs))) [ true ↦ (above_numbers p xs i (suc i) (omega arith), k) | false ↦ k ]
 
-later_arrows : (u k : ℕ) (ks : List ℕ) → All (λ n. k < n) ks → All (Before (u, k)) (map (λ j. (u, j)) ks)
+later_arrows : (u k : ℕ) (ks : List ℕ) → AllByRecursion (λ n. k < n) ks → AllByRecursion (Before (u, k)) (map (λ j. (u, j)) ks)
 later_arrows u k [] h = tt
 later_arrows u k (x ∷ ks) h = (inr (refl, h.0), later_arrows u k ks h.1)
 
-later_node : (u k v : ℕ) (ks : List ℕ) → u < v → All (Before (u, k)) (map (λ j. (v, j)) ks)
+later_node : (u k v : ℕ) (ks : List ℕ) → u < v → AllByRecursion (Before (u, k)) (map (λ j. (v, j)) ks)
 later_node u k v [] h = tt
 later_node u k v (x ∷ ks) h = (inl h, later_node u k v ks h)
 
-later_nodes : (arrows : List Arrow) (u k : ℕ) (us : List ℕ) → All (λ v. u < v) us → All (Before (u, k)) (flat_map (pairs_at arrows) us)
+later_nodes : (arrows : List Arrow) (u k : ℕ) (us : List ℕ) → AllByRecursion (λ v. u < v) us → AllByRecursion (Before (u, k)) (flat_map (pairs_at arrows) us)
 later_nodes arrows u k [] h = tt
 later_nodes arrows u k (v ∷ us) h =
     All-append (Before (u, k)) (pairs_at arrows v) (flat_map (pairs_at arrows) us) (later_node u k v (numbers (leads (near arrows v)) 0 arrows) h.0) (later_nodes arrows u k us h.1)
 
-ascending_node : (arrows : List Arrow) (u : ℕ) (us ks : List ℕ) → All (λ v. u < v) us → Ascending (flat_map (pairs_at arrows) us) → Rising ks → Ascending (map (λ j. (u, j)) ks ++ flat_map (pairs_at arrows) us)
+ascending_node : (arrows : List Arrow) (u : ℕ) (us ks : List ℕ) → AllByRecursion (λ v. u < v) us → Ascending (flat_map (pairs_at arrows) us) → Rising ks → Ascending (map (λ j. (u, j)) ks ++ flat_map (pairs_at arrows) us)
 ascending_node arrows u us [] h o r = o
 ascending_node arrows u us (k ∷ ks) h o r =
     (All-append (Before (u, k)) (map (λ j. (u, j)) ks) (flat_map (pairs_at arrows) us) (later_arrows u k ks r.0) (later_nodes arrows u k us h), ascending_node arrows u us ks h o r.1)

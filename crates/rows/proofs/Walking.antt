@@ -1,7 +1,7 @@
 -- A walk along steps: it visits marked nodes, and what is marked at its end is what the steps lead to. Assumes nothing.
 use Rattle.std.proofs.Common.{◌≡◌, ℕ, zero, suc, ◌+◌, ◌-◌, ◌<◌, Bool, true, false, cond, ◌⊎◌, List, [], ◌∷◌, ◌++◌, length, get_or, set, replicate, sym, refl, ap, ◌∙◌, subst, inl, inr, ⊎_elim, arith, length-set}
 use lib.ListN.{length-map}
-use Rattle.std.specs.List.{AllByRecursion as All}
+use Rattle.std.specs.List.{AllByRecursion}
 use Rattle.std.proofs.lemmas.List.{get_or-map, get_or-replicate, ext_get_or, length-append, length-replicate}
 use Rattle.course.specs.Reach.{In, Reaches, stay, go, among, closure, from, trues}
 use Rattle.bounded.specs.declared.list.Bounded.{Bounded}
@@ -61,16 +61,16 @@ module _ (steps : List (ℕ × ℕ)) (r v : ℕ) where
       new u w i z =
           ⊎_elim (λ q. old u w i (subst (λ (x : ℕ). Marked m x) (sym z) q)) (λ j. inr (inl (subst (λ (x : ℕ). In x (listed_after m t h)) (sym z) j))) (after_new m t h)
 
-  visit_all : (ws : List ℕ) (m : List Bool) (h : List ℕ) → ((w : ℕ) → In w ws → In (v, w) steps) → All (λ w. w < length m) ws → Visit steps r v ws m h → Walk steps r (marks_after ws m) (list_after ws m h)
+  visit_all : (ws : List ℕ) (m : List Bool) (h : List ℕ) → ((w : ℕ) → In w ws → In (v, w) steps) → AllByRecursion (λ w. w < length m) ws → Visit steps r v ws m h → Walk steps r (marks_after ws m) (list_after ws m h)
   visit_all [] m h only l s =
       record { sound = s.sound; root = s.root; listed = s.listed; closed = λ u w i q. ⊎_elim (λ a. absurd a.1) (λ a. a) (s.closed u w i q) }
   visit_all (t ∷ ws) m h only l s =
-      visit_all ws (set m t true) (listed_after m t h) (λ w i. only w (inr i)) (subst (λ (n : ℕ). All (λ w. w < n) ws) (sym (length-set m t true)) l.1)
+      visit_all ws (set m t true) (listed_after m t h) (λ w i. only w (inr i)) (subst (λ (n : ℕ). AllByRecursion (λ w. w < n) ws) (sym (length-set m t true)) l.1)
       (visit_one t ws m h (only t (inl refl)) l.0 s)
 
   -- a visit of v, which is taken off the list and leads to just ws
   pub visited : (ws : List ℕ) (m : List Bool) (h g : List ℕ) → h ≡ g ++ v ∷ [] → ((w : ℕ) → In (v, w) steps → In w ws) → ((w : ℕ) → In w ws → In (v, w) steps) →
-      All (λ w. w < length m) ws → Walk steps r m h → Walk steps r (marks_after ws m) (list_after ws m g)
+      AllByRecursion (λ w. w < length m) ws → Walk steps r m h → Walk steps r (marks_after ws m) (list_after ws m g)
   visited ws m h g e all only l s = visit_all ws m g only l (visit_start ws m h g e all s)
 
 -- what holds at the head of the loop: the walk, room for more, and as many flags as there are nodes
@@ -114,16 +114,16 @@ ready_taken m b c v e s r =
     record { room = s.room ∙ r.room; few = omega (arith, r.few, ap length e ∙ length-append (held c) (v ∷ [])) }
 
 -- one visit: v is taken off the list b, which leaves c, and its ws are marked and listed, which leaves d
-module _ (steps : List (ℕ × ℕ)) (r v : ℕ) (ws : List ℕ) (m n : List Bool) (b c d : Bounded ℕ) (e : held b ≡ held c ++ v ∷ []) (q : n ≡ marks_after ws m) (p : held d ≡ list_after ws m (held c)) (l : All (λ w. w < 1024) ws) (s : Walked steps r m b) where
+module _ (steps : List (ℕ × ℕ)) (r v : ℕ) (ws : List ℕ) (m n : List Bool) (b c d : Bounded ℕ) (e : held b ≡ held c ++ v ∷ []) (q : n ≡ marks_after ws m) (p : held d ≡ list_after ws m (held c)) (l : AllByRecursion (λ w. w < 1024) ws) (s : Walked steps r m b) where
   counted : Counts m (held c) (marks_after ws m) (list_after ws m (held c))
-  counted = counts ws m (held c) (subst (λ (z : ℕ). All (λ w. w < z) ws) (sym s.long) l)
+  counted = counts ws m (held c) (subst (λ (z : ℕ). AllByRecursion (λ w. w < z) ws) (sym s.long) l)
 
   pub walked_more : ((w : ℕ) → In (v, w) steps → In w ws) → ((w : ℕ) → In w ws → In (v, w) steps) → Lies b c → Lies c d → Walked steps r n d
   walked_more all only bc cd =
       let k = counted in
       record {
         walk = subst (λ (z : List Bool). Walk steps r z (held d)) (sym q) (subst (λ (z : List ℕ). Walk steps r (marks_after ws m) z) (sym p)
-            (visited steps r v ws m (held b) (held c) e all only (subst (λ (z : ℕ). All (λ w. w < z) ws) (sym s.long) l) s.walk));
+            (visited steps r v ws m (held b) (held c) e all only (subst (λ (z : ℕ). AllByRecursion (λ w. w < z) ws) (sym s.long) l) s.walk));
         ready = record {
           room = cd.room ∙ bc.room ∙ s.ready.room;
           few = omega (arith, k.even, s.ready.few, ap length p, ap trues q, ap length e ∙ length-append (held c) (v ∷ []));

@@ -6,7 +6,7 @@
 --                         ascend, are exactly the pairs that show, and each row is that of its pair
 --   RowsLaw               so it is of the rows computed, where the root and both ends of every arrow are among the nodes
 use Rattle.std.specs.Prelude.{◌≡◌, ℕ, ◌<◌, true, ◌⊎◌, ◌↔◌, List, [], ◌∷◌, map, slice_index_or}
-use Rattle.std.specs.List.{AllByRecursion as All}
+use Rattle.std.specs.List.{AllByRecursion}
 use Rattle.course.specs.declared.course.Arrow.{Arrow}
 use Rattle.course.specs.Ends.{inside}
 use Rattle.course.specs.Reach.{In, ends, lost}
@@ -18,7 +18,7 @@ Before p q = (p.0 < q.0) ⊎ ((p.0 ≡ q.0) × (p.1 < q.1))
 
 abbrev pub Ascending : List (ℕ × ℕ) → Type 0
 Ascending [] = Unit {0}
-Ascending (p ∷ pairs) = All (Before p) pairs × Ascending pairs
+Ascending (p ∷ pairs) = AllByRecursion (Before p) pairs × Ascending pairs
 
 pub record AreRows (arrows : List Arrow) (root : ℕ) (rows : List Row) : Type 0 where
   pub pairs : List (ℕ × ℕ)
