@@ -2,6 +2,6 @@
 // does. The laws of these rules are proved here, for every kind of label and every run of calls.
 #![tactic(auto)]
 
-mod laws;
 pub mod refusal;
 pub mod request;
+mod run_laws;

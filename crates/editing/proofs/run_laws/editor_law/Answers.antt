@@ -1,5 +1,5 @@
 use Rattle.editing.proofs.Editor.{empty_commit, taken_commit}
-use Rattle.editing.proofs.laws.editor_law.Goals as goal
+use Rattle.editing.proofs.run_laws.editor_law.Goals as goal
 
 pub returns : goal.returns
 returns g c =

@@ -1,5 +1,5 @@
 use Rattle.bench.proofs.Editor.{empty_commit, taken_commit}
-use Rattle.bench.proofs.laws.editor_law.Goals as goal
+use Rattle.bench.proofs.run_laws.editor_law.Goals as goal
 
 pub returns : goal.returns
 returns g c =

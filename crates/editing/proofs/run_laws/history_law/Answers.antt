@@ -1,5 +1,5 @@
-use Rattle.bench.proofs.Editor.{undo_redo, redo_undo}
-use Rattle.bench.proofs.laws.history_law.Goals as goal
+use Rattle.editing.proofs.Editor.{undo_redo, redo_undo}
+use Rattle.editing.proofs.run_laws.history_law.Goals as goal
 
 pub returns : goal.returns
 returns g c =
