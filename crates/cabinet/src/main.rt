@@ -6,11 +6,11 @@ mod command;
 mod labels;
 mod written;
 
-use anyhow::anyhow;
 use command::{Command, KindName};
 use kinds::setting::SettingLabel;
 use kinds::text::TextLabel;
 use labels::sort_out;
+use std::process::ExitCode;
 
 const USAGE: &str = "usage:
   cabinet labels text|setting
@@ -27,12 +27,15 @@ fn carry_out(rt: &HostRuntime, command: Command) -> anyhow::Result<()> {
     }
 }
 
-fn main(rt: HostRuntime) -> anyhow::Result<()> {
+fn main(rt: HostRuntime) -> anyhow::Result<ExitCode> {
     match command::from_arguments(&rt)? {
-        Some(command) => carry_out(&rt, command),
+        Some(command) => {
+            carry_out(&rt, command)?;
+            Ok(ExitCode::SUCCESS)
+        }
         None => {
             eprintln!(rt; "{USAGE}")?;
-            Err(anyhow!("wrong arguments"))
+            Ok(ExitCode::FAILURE)
         }
     }
 }
