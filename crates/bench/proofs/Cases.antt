@@ -8,8 +8,8 @@ pub worked_drafts_lem : WorkedDrafts
 unfolding answered run-computes rows-compute
 worked_drafts_lem =
     record {
-      opens_p = record { sound = record { some = omega arith; few_nodes_lem = omega arith; few_arrows_lem = omega arith; ends = refl }; rules = refl; labels = refl; run = refl };
-      opens_q = record { sound = record { some = omega arith; few_nodes_lem = omega arith; few_arrows_lem = omega arith; ends = refl }; rules = refl; labels = refl; run = refl };
+      opens_p = record { sound = record { some = omega arith; few_nodes = omega arith; few_arrows = omega arith; ends = refl }; rules = refl; labels = refl; run = refl };
+      opens_q = record { sound = record { some = omega arith; few_nodes = omega arith; few_arrows = omega arith; ends = refl }; rules = refl; labels = refl; run = refl };
       taken_p = refl;
       turned_p = refl;
       taken_q = refl;

@@ -2,11 +2,11 @@
 --
 --   Name, named, alike_names   the labels of the cabinets, told apart by their numbers
 --   opening_p                  three nodes; arrows 0-1 North, 1-2 Loop7, 1-2 Loop8; constant Loop8; the view follows the
---                             arrows and leaves out those with the constant's label. It is opened with the number 7
+--                              arrows and leaves out those with the constant's label. It is opened with the number 7
 --   opening_q                  two nodes; arrow 0-1 North; constant Site; the view is the source, united with a node from
---                             which the constant leads to the source. It is opened with the number 8
---   answered o rs             the answers to the requests rs on the opening o, each asked with a slip of its number
---   WorkedDrafts             the list of the cases
+--                              which the constant leads to the source. It is opened with the number 8
+--   answered o rs              the answers to the requests rs on the opening o, each asked with a slip of its number
+--   WorkedDrafts               the list of the cases
 use Rattle.std.specs.Prelude.{◌≡◌, ℕ, Bool, List, [], ◌∷◌, map, ◌==◌}
 use Rattle.course.specs.declared.course.Origin.TheVariants.{Source}
 use Rattle.laws.specs.Cabinets.{cabinet_p, view_p, course_p, cabinet_q, view_q, course_q}

@@ -1,36 +1,36 @@
 -- Drafts: what edits ask of the source arrows, and the answer to a trial of them. Assumes nothing.
 --
 -- Labels are of any kind L; alike tells whether two have one meaning.
---   Labelling L           a table of the source arrows' labels and one of the constants
+--   Labelling L            a table of the source arrows' labels and one of the constants
 --   label_in ls o          the label that the labelling ls gives the origin o; none where it is blank or past its table
 --   compare_by alike ls    how two origins compare under the labelling ls
---   relabel f i xs        the table xs, each label made anew by f from its number, counted from i on, and itself
+--   relabel f i xs         the table xs, each label made anew by f from its number, counted from i on, and itself
 --   is_source k o          whether the origin o is the source arrow k
 --   is_constant o          whether the origin o is a constant
 --   same_arrow a b         whether the origins a and b are one source arrow
 --   same_outcome           whether two outcomes are one
---   turns cmp i cs        the first of the comparisons cs, numbered from i on, that comes out otherwise under cmp
---   first p es            the lowest of the edits es that passes p. Edits go by row, the lowest first
+--   turns cmp i cs         the first of the comparisons cs, numbered from i on, that comes out otherwise under cmp
+--   first p es             the lowest of the edits es that passes p. Edits go by row, the lowest first
 --   asked_or e l           the label that the edit asks; l where there is no edit
---   put es ls             the labelling ls with each label that the edits ask put in; the lowest edit of an arrow counts
---   Change L              an arrow and the label that a commit gives it
---   changes es            one change for each source arrow that the edits name, with the label that its lowest edit asks
+--   put es ls              the labelling ls with each label that the edits ask put in; the lowest edit of an arrow counts
+--   Change L               an arrow and the label that a commit gives it
+--   changes es             one change for each source arrow that the edits name, with the label that its lowest edit asks
 --   changes_over low es    the same for the edits es, where the edits low came before: an arrow named there has its change
 --   change_for o l e cs    the change of the origin o to l before the changes cs; none where o is no source arrow or a lower
---                         edit e names it
---   otherwise alike e d   whether the edits e and d ask one arrow labels that are not alike
+--                          edit e names it
+--   otherwise alike e d    whether the edits e and d ask one arrow labels that are not alike
 --   clash_for e d rest     the edit e where a lower edit d was found that asks otherwise; else rest
 --   clashing alike low es the lowest of the edits es whose arrow a lower edit asks otherwise; the edits low came before
 --   row_of e               the row of an edit
 --   clash_of es e          what is told of the clashing edit e: its row, and its arrow's lowest edited row
 --   turn_of es t           what is told of the comparison t, with its number, that turns: its place and frame, and the lowest
---                         edited row whose arrow is on a side of it
+--                          edited row whose arrow is on a side of it
 --   refuse_where o e v     the refusal that e gives for what was found, and the verdict v where nothing was found
---   crowds s n es         whether s standing commits with n changes leave no room for a commit of the edits es: a history
---                         holds 64 commits and 256 changes
+--   crowds s n es          whether s standing commits with n changes leave no room for a commit of the edits es: a history
+--                          holds 64 commits and 256 changes
 --   is_empty es            whether there is no edit
---   verdict               the answer to a trial of the edits es under the labelling ls, where cs are the comparisons of the
---                         course, and s commits with n changes stand: how many arrows the edits name, or why not
+--   verdict                the answer to a trial of the edits es under the labelling ls, where cs are the comparisons of the
+--                          course, and s commits with n changes stand: how many arrows the edits name, or why not
 use Rattle.std.specs.Prelude.{ℕ, suc, ◌+◌, Bool, true, false, cond, not, ◌&&◌, ◌||◌, List, [], ◌∷◌, ◌++◌, length, Some, None, Ok, Err, Option, Result, ◌==◌, nat_le, nat_lt}
 use Rattle.course.specs.declared.course.Comparison.{Comparison}
 use Rattle.course.specs.declared.course.Origin.{Origin}

@@ -1,11 +1,11 @@
 -- The laws of a well-behaved editor, and of its history. Assumes nothing.
 --
---   row_read alike r d   the answer to a reading of the row r
+--   row_read alike r d  the answer to a reading of the row r
 --   Untouched d after   no label, no commit and no row has changed
---   EmptyCommit        a commit of nothing is refused as such, and changes nothing but that it closes the draft
+--   EmptyCommit         a commit of nothing is refused as such, and changes nothing but that it closes the draft
 --   Shown               after a commit of the edits es the view shows exactly what was asked: each edited row shows the label
 --                       asked, and each row whose origin is no edited row's is as it was
---   TakenCommit        so it is after every taken commit, whatever calls came before
+--   TakenCommit         so it is after every taken commit, whatever calls came before
 --   Again               a call is answered as its opposite was, and gives back the desk that there was before
 --   UndoRedo, RedoUndo  undo followed by redo, and redo followed by undo, restore every label, whatever calls came before
 use Rattle.std.specs.Prelude.{◌≡◌, ℕ, Bool, true, List, [], Some, ◌≢◌}

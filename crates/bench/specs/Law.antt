@@ -8,22 +8,22 @@
 --                         forward run on the labels
 --   opened o              the machine's state when a bench has been opened
 --   asks n r              the call with the request r and a slip of number n, with tables that are long enough
---   course_of run          the course of a run that is done
---   rows_in run            the rows of a run that is done
+--   course_of run         the course of a run that is done
+--   rows_in run           the rows of a run that is done
 --   Rival                 a labelling that relabels, of a labelling, only source arrows that are origins of edited rows
 --   Serves                its forward run takes the opening's course, and each edited row shows the label asked
 --   NoneServes            no rival serves
 --   unservable e          whether the refusal has the number 31, 32 or 33: a constant, a clash or a turned comparison
---   turned_down a          whether the answer is such a refusal
+--   turned_down a         whether the answer is such a refusal
 --   Upheld                what holds after the calls, on the desk d, with the answers told:
 --     labels                each source arrow's label is the one asked for it by the latest standing commit that names it,
---                           and where none does, the opening's
+--                         and where none does, the opening's
 --     course                a forward run on these labels takes the opening's course exactly
 --     rows                  each row read is that run's row of the same number, with its origin's present label
 --     trial, commit         with a slip that fits, trial and commit would be refused as 31, 32 or 33 exactly when no rival
---                           labelling serves
+--                         labelling serves
 --     answers               each answer, readings included, is the one that the rules give
---   RunLaw               all this after any calls, taken or refused, with any slips, rows and labels
+--   RunLaw                all this after any calls, taken or refused, with any slips, rows and labels
 use Rattle.std.specs.Prelude.{◌≡◌, ℕ, Bool, true, false, ◌&&◌, ◌⊎◌, ◌↔◌, List, [], length, Some, None, Option, nat_le}
 use Rattle.std.specs.List.{slice_get}
 use Rattle.expression.specs.Rules.{keeps}

@@ -1,28 +1,28 @@
 -- The bench with its tables, as the machine's state, and the calls' answers as the machine's. Assumes nothing.
 --
 -- A bench is read with any four tables: labels, constants, asked, history.
---   is_opened s        whether a source is opened
---   ends_of s          the arrows of the source; none where nothing is opened
---   rows_of b          the rows that the bench holds
+--   is_opened s          whether a source is opened
+--   ends_of s            the arrows of the source; none where nothing is opened
+--   rows_of b            the rows that the bench holds
 --   edits_of rows rs ls  the edits of the rows rs with the labels ls; an edit has the origin of its row
---   no_row             the row that stands past the end of a list
+--   no_row               the row that stands past the end of a list
 --   draft_edits b asked  the edits by the rows that the bench holds and the labels asked
---   draft_of t es      the draft: the edits es where t tells that one is open
---   kept_of            changes by their arrows, old labels and new labels
---   commit_at i n ..   a commit of n changes from change i on: its old labels stand in the history table from i on, its new
---                     ones from 256 + i on
+--   draft_of t es        the draft: the edits es where t tells that one is open
+--   kept_of              changes by their arrows, old labels and new labels
+--   commit_at i n ..     a commit of n changes from change i on: its old labels stand in the history table from i on, its new
+--                        ones from 256 + i on
 --   commits_of i ns .. the commits of the sizes ns from change i on
---   labels_of b ..     the labelling: as many labels as the source has arrows, and as many constants as were opened with
---   desk b ..         the machine's state that the bench and its tables stand for
---   short b ..        whether a table is shorter than the bench needs
---   ready s o         the first checks of a call: a table is too short, nothing is opened
---   handed s n r      the call with the request r and a slip of number n, where s tells that a table is too short
---   begun, told       what begin answers, what mark answers
---   said f r          what a reading answers, where f tells what was read
---   paired x l        x and the label l, if there is one
---   row_shown ls w     the row w, if there is one, with its label
---   arrow_shown a l    the source arrow a, if there is one, with the label l
---   dropped           what abandon answers
+--   labels_of b ..       the labelling: as many labels as the source has arrows, and as many constants as were opened with
+--   desk b ..            the machine's state that the bench and its tables stand for
+--   short b ..           whether a table is shorter than the bench needs
+--   ready s o            the first checks of a call: a table is too short, nothing is opened
+--   handed s n r         the call with the request r and a slip of number n, where s tells that a table is too short
+--   begun, told          what begin answers, what mark answers
+--   said f r             what a reading answers, where f tells what was read
+--   paired x l           x and the label l, if there is one
+--   row_shown ls w       the row w, if there is one, with its label
+--   arrow_shown a l      the source arrow a, if there is one, with the label l
+--   dropped              what abandon answers
 use Rattle.std.specs.Prelude.{ℕ, ◌+◌, Bool, true, false, cond, ◌||◌, List, [], ◌∷◌, length, take, drop, Some, None, Ok, Err, vec_items, Option, Result, nat_lt, slice_index_or}
 use Rattle.course.specs.declared.course.Origin.TheVariants.{Blank}
 use Rattle.course.specs.declared.source.Source.{Source}

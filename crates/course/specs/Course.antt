@@ -1,20 +1,20 @@
 -- A course, and the steps that a run takes on one. Assumes nothing.
 --
---   Course          four lists: nodes, arrows, frames and comparisons
---   is_blank_origin         whether an origin is blank
+--   Course           four lists: nodes, arrows, frames and comparisons
+--   is_blank_origin  whether an origin is blank
 --   list_number      the number of a list: nodes 1, arrows 2, frames 3, comparisons 4
---   Run X           how a step ends: done, with an answer and the course so far, or full, with the
---                   first entry that does not fit
---   Step X          a step: it goes on from a course
---   onward          goes on from where a step ended, if it is done
---   give, >>=, >>   a step that only answers; a step after another, with its answer or without
---   branch          one of two steps
+--   Run X            how a step ends: done, with an answer and the course so far, or full, with the
+--                    first entry that does not fit
+--   Step X           a step: it goes on from a course
+--   onward           goes on from where a step ended, if it is done
+--   give, >>=, >>    a step that only answers; a step after another, with its answer or without
+--   branch           one of two steps
 --   full_at p f l    the entry of the list l that the rule of the place p in the frame f makes, and that does not fit
 --   enter_node ..    one more entry of a list, if it fits; a node and a frame answer their number. A frame carries no
---                   frame of its own, so the place and the frame whose rule makes it come first
+--                    frame of its own, so the place and the frame whose rule makes it come first
 --   new_node p f m   a node with the marker m that stands for itself
 --   link, new_arrow  an arrow
---   each            a step for each element of a list, in order
+--   each             a step for each element of a list, in order
 --   each_at          the same, where the step also has the element's number, counted from i on
 --   nodes_for        for each marker of a set, counted from i on, a step that answers its node; 0 for the others
 use Rattle.std.specs.Prelude.{ℕ, suc, Bool, true, false, cond, List, [], ◌∷◌, ◌++◌, length, nat_lt}

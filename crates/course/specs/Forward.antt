@@ -4,31 +4,31 @@
 -- rule's place and this frame. Parts come first, in the order shown, except in the forms If and Recursion. Markers go
 -- upwards.
 --
---   Maps            what an evaluation answers: into has for each of the eight markers its node, and 0 outside the
---                   in-set; outs are the nodes left open, each with its marker
---   maps, out       such an answer from its two parts; an out from its node and its marker
+--   Maps             what an evaluation answers: into has for each of the eight markers its node, and 0 outside the
+--                    in-set; outs are the nodes left open, each with its marker
+--   maps, out        such an answer from its two parts; an out from its node and its marker
 --   empty, only m v the in-map of no marker; of the marker m alone, with the node v
---   merged ms a b   the in-map a at the markers of ms, and b at the others
+--   merged ms a b    the in-map a at the markers of ms, and b at the others
 --   origin_of env t  where the label of the term t comes from
---   deeper env o v  the environment one level deeper, where the label variable has the origin o and the graph variable
---                   is the node v
---   labelled        Edge: a node, with an arrow to the node t
---   joint           Union: a node for the marker m, with blank arrows to the two parts' nodes for it
---   tie             Append, and a body's outs: a blank arrow from an out to the node for its marker, if that is in the set
---   compared        If: the comparison, written down
---   chosen          If: the first part on Same, the second on Other, alone
+--   deeper env o v   the environment one level deeper, where the label variable has the origin o and the graph variable
+--                    is the node v
+--   labelled         Edge: a node, with an arrow to the node t
+--   joint            Union: a node for the marker m, with blank arrows to the two parts' nodes for it
+--   tie              Append, and a body's outs: a blank arrow from an out to the node for its marker, if that is in the set
+--   compared         If: the comparison, written down
+--   chosen           If: the first part on Same, the second on Other, alone
 --   hub_step         Recursion: the hub that stands for v, for a marker of the set
 --   hubs_step        Recursion: the hubs that stand for v, where v is in S
 --   link_at          Recursion: a blank arrow between two in-maps' nodes for a marker of the set
 --   run_body         Recursion: a new frame for the arrow with the number k, the body in it, blank arrows from the tail's
---                   hubs to the body's nodes and from the body's outs to the head's hubs
---   turn            Recursion: what an arrow does. A blank arrow of T: blank arrows from hub to hub. Another arrow of T: a
---                   run of the body, one level deeper. An arrow outside T does nothing
---   recur           Recursion, from the argument's node r on: S, the nodes that arrows reach from r, and T, the arrows
---                   with their tail in S, are fixed; then come the hubs of S, then T upwards
---   eval            the rules
---   outermost       the environment of a whole expression: graph variable 0 is the source's root
---   forward         the run: the course with the whole's node for marker 0, or the first entry that does not fit
+--                    hubs to the body's nodes and from the body's outs to the head's hubs
+--   turn             Recursion: what an arrow does. A blank arrow of T: blank arrows from hub to hub. Another arrow of T: a
+--                    run of the body, one level deeper. An arrow outside T does nothing
+--   recur            Recursion, from the argument's node r on: S, the nodes that arrows reach from r, and T, the arrows
+--                    with their tail in S, are fixed; then come the hubs of S, then T upwards
+--   eval             the rules
+--   outermost        the environment of a whole expression: graph variable 0 is the source's root
+--   forward          the run: the course with the whole's node for marker 0, or the first entry that does not fit
 use Rattle.std.specs.Prelude.{ℕ, ◌+◌, Bool, false, cond, List, [], ◌∷◌, ◌++◌, length, replicate, slice_index, slice_index_or, slice_set}
 use Rattle.expression.specs.declared.term.Term.{Term}
 use Rattle.expression.specs.declared.term.Term.TheVariants.{Constant as Fixed, Variable}

@@ -1,6 +1,6 @@
 -- How a run compares labels. Assumes nothing.
 --
---   Compare       how the labels of two origins compare: all that a run sees of labels
+--   Compare        how the labels of two origins compare: all that a run sees of labels
 --   class_of cs o  the class number of the label of the origin o
 --   by_class cs    the comparison by class numbers: Same where they are equal
 use Rattle.std.specs.Prelude.{ℕ, cond, ◌==◌, slice_index}

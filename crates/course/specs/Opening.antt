@@ -1,7 +1,7 @@
 -- The course that a run starts from. Assumes nothing.
 --
 -- The entries of the source carry the place 64, the frame 0 and the marker 0.
---   source_nodes i n   n nodes, numbered from i on
+--   source_nodes i n  n nodes, numbered from i on
 --   source_arrows k as the arrows as, numbered from k on, each with its own label
 --   no_course         the empty course
 --   opening           the nodes and the arrows of a source, and frame 0

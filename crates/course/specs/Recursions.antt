@@ -1,7 +1,7 @@
 -- A recursion under way: the tables by which its hubs are found, and what its arrows do. Assumes nothing.
 --
 --   members h       the flags of S, the nodes that the tables h are made for
---   hubs_at h v      the hubs of the node v, as an in-map
+--   hubs_at h v     the hubs of the node v, as an in-map
 --   Numbers ..      h has the hubs of the recursion at the place p in the frame f, of the nodes s for the markers ms,
 --                   numbered from n on
 --   Stands h n      once there are n nodes, the hubs are among them

@@ -2,7 +2,7 @@
 --
 --   Graph           a graph: how many nodes, and its arrows as pairs of tail and head
 --   graph n as      such a graph from its two parts
---   graph_of s       the graph that the source s holds
+--   graph_of s      the graph that the source s holds
 --   outside n k as  the lowest of the arrows as, numbered from k on, with an end that is not among n nodes
 --   sized n l       whether n nodes and l arrows are as many as a source may have
 --   fault n as      what is wrong with n nodes and the arrows as, the counts first; None where it is a source

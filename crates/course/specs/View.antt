@@ -1,10 +1,10 @@
 -- What a workspace holds, and how the answer of a call that works on it agrees with a run of the rules. Assumes nothing.
 --
---   course_of w      the course that the workspace w holds
+--   course_of w     the course that the workspace w holds
 --   stack w         the outs on its stack
 --   size w          how many nodes it has
 --   with_node n c, with_arrow a c    the course c with one more node, with one more arrow
---   with_nodes n     the course that has n source nodes alone
+--   with_nodes n    the course that has n source nodes alone
 --   with_arrows n xs the course that has n source nodes and the source arrows xs alone
 --   cut xs i j      a list without what stands from i up to j
 --   Within n into   every node of an in-map is among the first n

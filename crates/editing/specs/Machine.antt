@@ -1,23 +1,23 @@
 -- The bench as a machine that stores its labels and its history. Assumes nothing.
 --
---   Kept L              a change that is kept: the arrow, its label before, and the one given
---   Desk L              what a bench and its tables stand for: whether it is open, its number, the source's arrows, the
---                       course, the rows, the labels, the draft, the history of all kept commits in their order, and how
---                       many of them stand
---   written as vs xs    the table xs with each value of vs written at its number in as, the first one first
+--   Kept L                a change that is kept: the arrow, its label before, and the one given
+--   Desk L                what a bench and its tables stand for: whether it is open, its number, the source's arrows, the
+--                         course, the rows, the labels, the draft, the history of all kept commits in their order, and how
+--                         many of them stand
+--   written as vs xs      the table xs with each value of vs written at its number in as, the first one first
 --   arrow_of, old_of, new_of  the parts of a kept change
---   label_or o l         the label o; l where there is none
---   giving as ls        the changes that give the arrows as the labels ls
---   keep_one, keep       a change, a commit's changes, with the labels before
+--   label_or o l          the label o; l where there is none
+--   giving as ls          the changes that give the arrows as the labels ls
+--   keep_one, keep        a change, a commit's changes, with the labels before
 --   put_back, put_in      a commit's old labels, its new labels put in
---   total ks            how many changes the commits ks have
+--   total ks              how many changes the commits ks have
 --   size_at, size_before  how many changes the commit of a number has, and the one before it
---   seen d              what a call sees of the desk
---   with d ..           the desk with other labels, another draft, history and number of standing commits
---   perform e d         the desk after an effect
---   step call d         the desk after a call, and the answer
---   run calls d         the desk after the calls
---   answers calls d     the answers to the calls
+--   seen d                what a call sees of the desk
+--   with d ..             the desk with other labels, another draft, history and number of standing commits
+--   perform e d           the desk after an effect
+--   step call d           the desk after a call, and the answer
+--   run calls d           the desk after the calls
+--   answers calls d       the answers to the calls
 use Rattle.std.specs.Prelude.{ℕ, zero, suc, pred, ◌+◌, Bool, List, [], ◌∷◌, ◌++◌, map, length, take, drop, Some, None, Option, slice_index_or, slice_set}
 use Rattle.std.specs.List.{slice_get}
 use Rattle.course.specs.Course.{Course}

@@ -1,54 +1,54 @@
 -- A bench as it follows from its opening and the calls with their arguments alone. Assumes nothing.
 --
---   Opening L         what a bench was opened with: its number, the source's graph, the expression as a tree, the labels of
---                     the source arrows and the constants; and the node and the course of the forward run on them
---   rows_shown o       the rows of that run
---   Call L            a call: whether a table handed in is too short, the number of the slip handed in, and the request.
---                     A request that takes no slip does not go by the number
---   State L           the draft, if one is open, as its edits by row; the standing commits, the last one first; the undone
---                     commits, the one that redo takes first. A commit is the list of its changes
+--   Opening L            what a bench was opened with: its number, the source's graph, the expression as a tree, the labels of
+--                        the source arrows and the constants; and the node and the course of the forward run on them
+--   rows_shown o         the rows of that run
+--   Call L               a call: whether a table handed in is too short, the number of the slip handed in, and the request.
+--                        A request that takes no slip does not go by the number
+--   State L              the draft, if one is open, as its edits by row; the standing commits, the last one first; the undone
+--                        commits, the one that redo takes first. A commit is the list of its changes
 --
 -- The present labels:
---   given k t l       the label that the commit t gives the arrow k; l where it names another
---   latest k ts l     the label that the latest of the commits ts that names the arrow k gives it; l where none does
---   under ls ts       the labelling ls under the commits ts
---   present o st      each source arrow's present label: the one asked for it by the latest standing commit that names it,
---                     and where none does, the opening's
+--   given k t l          the label that the commit t gives the arrow k; l where it names another
+--   latest k ts l        the label that the latest of the commits ts that names the arrow k gives it; l where none does
+--   under ls ts          the labelling ls under the commits ts
+--   present o st         each source arrow's present label: the one asked for it by the latest standing commit that names it,
+--                        and where none does, the opening's
 --
 -- What a call sees, does and answers:
---   View L            what a call sees of a bench: whether it is open, its number, the source's arrows, the course, the rows,
---                     the present labels, the draft; how many commits stand, how many changes these have, how many commits
---                     are undone; how many arrows the last standing commit names, and how many the one that redo takes
---   Effect L          what a call does: nothing, another draft or none, a commit, an undo, a redo
---   Response L         an effect and an answer
---   refuse, says      nothing is done: a refusal; an answer
---   found o e k       goes on with what was found; the refusal e where nothing was
---   idle d x          x where no draft is open; else it is refused
---   fits d b k        goes on with the draft's edits where a draft is open and the slip's number is the bench's; else it is
---                     refused
---   insert e es       the edits es with e in the place of what was asked for its row
---   remove r es       the edits es without that of the row r
---   edited r es       whether the row r has an edit
---   shows alike o l   whether there is the label o and it is alike to l
---   marked            mark: the label shown removes the row's edit; another is put in, unless it were a 33rd edit
---   judge v es        the verdict on the edits es
---   tried v           trial: the verdict, and nothing is done
---   settled es v      commit: what a taken one does, and that a refused one closes the draft
---   moved e x o       undo and redo: the effect e names so many arrows; the refusal x where there is none to move
---   how_many d         how many edits the draft has, if one is open
---   edit_at d i        the edit of the number i of the draft, if there is one
---   decide_open        the effect and the answer of a request with a slip of a number, on an opened bench
---   decide            the effect and the answer of a call, by its checks in their order
---   counted ts        how many changes the commits ts have
---   size_of ts         how many changes the first of the commits ts has
---   view o st         what a call sees of the bench in the state st
---   undone, redone    the state after an undo, after a redo
---   act e st          the state after an effect
---   start             no draft and no commit
---   next, reply       the state after a call, and its answer
+--   View L               what a call sees of a bench: whether it is open, its number, the source's arrows, the course, the rows,
+--                        the present labels, the draft; how many commits stand, how many changes these have, how many commits
+--                        are undone; how many arrows the last standing commit names, and how many the one that redo takes
+--   Effect L             what a call does: nothing, another draft or none, a commit, an undo, a redo
+--   Response L           an effect and an answer
+--   refuse, says         nothing is done: a refusal; an answer
+--   found o e k          goes on with what was found; the refusal e where nothing was
+--   idle d x             x where no draft is open; else it is refused
+--   fits d b k           goes on with the draft's edits where a draft is open and the slip's number is the bench's; else it is
+--                        refused
+--   insert e es          the edits es with e in the place of what was asked for its row
+--   remove r es          the edits es without that of the row r
+--   edited r es          whether the row r has an edit
+--   shows alike o l      whether there is the label o and it is alike to l
+--   marked               mark: the label shown removes the row's edit; another is put in, unless it were a 33rd edit
+--   judge v es           the verdict on the edits es
+--   tried v              trial: the verdict, and nothing is done
+--   settled es v         commit: what a taken one does, and that a refused one closes the draft
+--   moved e x o          undo and redo: the effect e names so many arrows; the refusal x where there is none to move
+--   how_many d           how many edits the draft has, if one is open
+--   edit_at d i          the edit of the number i of the draft, if there is one
+--   decide_open          the effect and the answer of a request with a slip of a number, on an opened bench
+--   decide               the effect and the answer of a call, by its checks in their order
+--   counted ts           how many changes the commits ts have
+--   size_of ts           how many changes the first of the commits ts has
+--   view o st            what a call sees of the bench in the state st
+--   undone, redone       the state after an undo, after a redo
+--   act e st             the state after an effect
+--   start                no draft and no commit
+--   next, reply          the state after a call, and its answer
 --   after_from calls st  the state after the calls, from the state st
---   after calls       the same from the start
---   replies calls st  the answers to the calls, from the state st
+--   after calls          the same from the start
+--   replies calls st     the answers to the calls, from the state st
 use Rattle.std.specs.Prelude.{ℕ, ◌+◌, Bool, true, false, cond, not, ◌&&◌, List, [], ◌∷◌, length, Some, None, Ok, Err, Option, Result, ◌==◌, nat_le, nat_lt}
 use Rattle.std.specs.List.{slice_get}
 use Rattle.expression.specs.Forms.{Tree}

@@ -5,13 +5,13 @@
 -- fails.
 --   sized n c               there are 1 to 64 places and at most 32 constants
 --   padded raw              the forms of the raw places, with Zeros up to the 64th place
---   read_at raw p            the form that the raw place p names, if any
+--   read_at raw p           the form that the raw place p names, if any
 --   lower_form p form       it is one, and its parts stand lower
 --   well_formed raw p       the letter at p is a form's, and its parts stand lower
 --   part_once table n p     p is a part exactly once, or the last of the n places and no part
 --   fields_fit c l form     the variables, constants and markers of a form at the level l
---   in_range_lem c l form       the level l, and the variables, constants and markers of a form there
---   level_at table n p       the level of the place p in the tree of the last place
+--   form_in_range c l form  the level l, and the variables, constants and markers of a form there
+--   level_at table n p      the level of the place p in the tree of the last place
 --   range_kept table n c p  the form at p keeps to its range there
 --   sets_hold ins outs form the condition of a form, by the sets of its parts
 --   closed in out           the sets of a whole: marker 0 alone in, nothing out
@@ -69,14 +69,14 @@ fields_fit c l (Graph j) = nat_le j l
 fields_fit c l (If s t e f) = term_fits c l s && term_fits c l t
 fields_fit c l (Recursion b a) = true
 
-abbrev pub in_range_lem : ℕ → ℕ → Form → Bool
-in_range_lem c l form = nat_le l 4 && fields_fit c l form
+abbrev pub form_in_range : ℕ → ℕ → Form → Bool
+form_in_range c l form = nat_le l 4 && fields_fit c l form
 
 abbrev pub level_at : List Form → ℕ → ℕ → ℕ
 level_at table n p = level_in p 0 (tree_at table (n - 1))
 
 abbrev pub range_kept : List Form → ℕ → ℕ → ℕ → Bool
-range_kept table n c p = in_range_lem c (level_at table n p) (slice_index_or table p Zero)
+range_kept table n c p = form_in_range c (level_at table n p) (slice_index_or table p Zero)
 
 -- 15
 abbrev pub sets_hold : (ℕ → List Bool) → (ℕ → List Bool) → Form → Bool

@@ -6,7 +6,7 @@
 --   raw_place              a raw place by all its fields
 --   leaf, with_number, joined    one with a letter and no field, a number, or two parts
 --   node, out, graph, edge, union, choice, recursion    one of a form, its unused fields 0
---   places_p, places_q       the two cabinets' raw places
+--   places_p, places_q     the two cabinets' raw places
 --   Worked                 what admission answers to them, and one case of each refusal
 use Rattle.std.specs.Prelude.{◌≡◌, ℕ, List, [], ◌∷◌, Ok, Err}
 use Rattle.expression.specs.declared.term.Term.{Term}

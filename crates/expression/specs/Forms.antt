@@ -5,7 +5,7 @@
 --   lower k form    whether the parts of the form at place k stand at lower places
 --   Lower k form    the same, as a fact
 --   grown           the tree of a form at a place, from the trees of its parts
---   tree_at          the tree of a place of a table; a place past the table's end is a Zero
+--   tree_at         the tree of a place of a table; a place past the table's end is a Zero
 use Rattle.std.specs.Prelude.{ℕ, zero, suc, ◌<◌, Bool, true, ◌&&◌, List, nat_lt, slice_index_or}
 use Rattle.expression.specs.declared.term.Term.{Term}
 use Rattle.expression.specs.declared.form.Form.{Form}

@@ -2,18 +2,18 @@
 --
 -- A table of places and its tree are told apart here: the table is what is stored, the tree of its
 -- last place is the expression.
---   Has set m              the set has the marker m
---   Apart a b              no marker is in both sets
---   Within a b             every marker of a is in b
---   TermIn c l t           the term t is one of c constants, or a label variable from 1 to the level l
---   FieldsIn c l form      the terms, the variable or the marker of a form at the level l
---   Keeps c l tree         every rule, at each place of a tree that stands at the level l
---   Drawn table tree       each place of the tree has the form that the table has there, and the
---                          parts of its tree stand at the parts of that form, which are lower
---   PartLevels level p form   the parts of the form at p have their levels
---   expressed x            the tree of the expression x
---   level_of x p            the level of its place p there
---   Lawful x               the law of the admitted expression x
+--   Has set m                the set has the marker m
+--   Apart a b                no marker is in both sets
+--   Within a b               every marker of a is in b
+--   TermIn c l t             the term t is one of c constants, or a label variable from 1 to the level l
+--   FieldsIn c l form        the terms, the variable or the marker of a form at the level l
+--   Keeps c l tree           every rule, at each place of a tree that stands at the level l
+--   Drawn table tree         each place of the tree has the form that the table has there, and the
+--                            parts of its tree stand at the parts of that form, which are lower
+--   PartLevels level p form  the parts of the form at p have their levels
+--   expressed x              the tree of the expression x
+--   level_of x p             the level of its place p there
+--   Lawful x                 the law of the admitted expression x
 use Rattle.std.specs.Prelude.{◌≡◌, ℕ, suc, ◌<◌, ◌≤◌, Bool, true, false, List, slice_index_or}
 use Rattle.expression.specs.declared.term.Term.{Term}
 use Rattle.expression.specs.declared.term.Term.TheVariants.{Constant, Variable}

@@ -1,15 +1,15 @@
 -- The places of a table and of a tree: who is whose part, and at which level. Assumes nothing.
 --
---   parts_of form          the parts of a form, in their order
+--   parts_of form         the parts of a form, in their order
 --   here p q              1 where p and q are one place, and else 0
 --   times p list          how often p stands in a list
 --   uses table n p        how often p is a part of the first n places of a table
 --   Below r list          every place of a list is below r
---   place_of tree          the place at which a tree stands
+--   place_of tree         the place at which a tree stands
 --   occurrences p tree    how often the place p stands in a tree
 --   occurs p tree         whether it stands there at all
 --   raised form p l       the level of the part p of a form that stands at the level l
---   level_in p l tree      the level of the place p in a tree that stands at the level l; the level
+--   level_in p l tree     the level of the place p in a tree that stands at the level l; the level
 --                         of a place that is not there is left open
 use Rattle.std.specs.Prelude.{ℕ, zero, suc, ◌+◌, ◌<◌, Bool, cond, List, [], ◌∷◌, ◌==◌, nat_lt, slice_index_or}
 use Rattle.expression.specs.declared.form.Form.{Form}

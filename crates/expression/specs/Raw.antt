@@ -1,7 +1,7 @@
 -- A raw place, read as a form. Assumes nothing.
 --
---   read r       the form that the letter of the raw place r names, with the fields that it has;
---                none where the letter is no form's
+--   read r        the form that the letter of the raw place r names, with the fields that it has;
+--                 none where the letter is no form's
 --   or_zero o     the form o, or a Zero where there is none
 --   form_read r   the form that r names, a Zero where the letter is no form's
 use Rattle.std.specs.Prelude.{cond, Some, None, Option, ◌==◌}

@@ -1,6 +1,6 @@
 -- What each refusal of admission is: its number, and the place that it names. Assumes nothing.
 --
---   meaning r     the number of the refusal r, and the place that it names, if any
+--   meaning r      the number of the refusal r, and the place that it names, if any
 --   number_of r    its number
 --   place_of r     its place
 use Rattle.std.specs.Prelude.{ℕ, Some, None, Option}

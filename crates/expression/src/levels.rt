@@ -4,7 +4,7 @@ ghost use Rattle.expression.specs.declared.form.Form.TheVariants.{Zero as NoPlac
 ghost use Rattle.expression.specs.Forms.{lower};
 ghost use Rattle.expression.specs.Parts.{Below, parts_of, times, raised};
 ghost use Rattle.expression.specs.Rules.{term_fits};
-ghost use Rattle.expression.specs.Admission.{part_once, level_at, fields_fit, in_range_lem, range_kept, lowest};
+ghost use Rattle.expression.specs.Admission.{part_once, level_at, fields_fit, form_in_range, range_kept, lowest};
 
 use crate::expression::MARKERS;
 use crate::form::Form;
@@ -81,7 +81,7 @@ fn fields_in_range(form: Form, level: usize, constants: usize) -> bool
 
 // Whether a form may stand at a level: the level is not too high, and its fields are in range.
 fn in_range(form: Form, level: usize, constants: usize) -> bool
-    ensures { result ≡ in_range_lem constants level form }
+    ensures { result ≡ form_in_range constants level form }
 {
     level <= LEVELS && fields_in_range(form, level, constants)
 }

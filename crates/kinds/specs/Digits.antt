@@ -2,7 +2,7 @@
 --
 --   glyph_of d        the byte of the digit d: 0 to 9, then A to F
 --   value_of b        the digit that the byte b is the glyph of
---   spelled b w n    the digits of n in the base b, with zeros in front of fewer than w
+--   spelled b w n     the digits of n in the base b, with zeros in front of fewer than w
 use Rattle.std.specs.Prelude.{ℕ, ◌+◌, ◌-◌, cond, List, ◌++◌, map, length, replicate, nat_lt}
 use Rattle.std.specs.Int.Digits.{digits_of}
 

@@ -39,7 +39,7 @@ text_back mark mark e = refl
 pub setting_tied : Tied setting_text meant
 setting_tied = record { one_meaning = λ x y e. text_back (meant x) (meant y) e; one_text = λ x y e. ap text_of e }
 
--- whether two meanings are one is told exactly
+-- meanings that are told to be one are one, and a meaning is told to be one with itself
 alike_one : (m n : Meant) → alike_meant m n ≡ true → m ≡ n
 alike_one (seconds m) (seconds n) e = ap seconds (eqb-true m n e)
 alike_one (seconds m) (metres n) e = absurd (both_ways false refl e)
@@ -64,6 +64,7 @@ alike_self (metres n) = eq-eqb n n refl
 alike_self (count n) = eq-eqb n n refl
 alike_self mark = refl
 
+-- whether two labels have one meaning is told exactly
 pub settings_exact : (s t : SettingLabel) → (alike_meant (meant s) (meant t) ≡ true) ↔ (meant s ≡ meant t)
 settings_exact s t = (alike_one (meant s) (meant t), λ e. subst (λ (n : Meant). alike_meant (meant s) n ≡ true) e (alike_self (meant s)))
 
@@ -108,10 +109,10 @@ at_count bs r n reads is Mark h e = absurd (omega (arith, reads.begins n is, hea
 
 -- no text of a number reads as a number too large for a count, or as none
 pub at_mark : (bs : List ℕ) (a b d : Option ℕ) → Reads bs 83 16 a → Reads bs 76 16 b → Reads bs 67 10 d → a ≡ None → b ≡ None → ((n : ℕ) → n < 65536 → d ≢ Some n) → (v : Setting) → Holds v → text_of (meant_by v) ≡ bs → Mark ≡ v
-at_mark bs a b d s l c no-s no-l no-c (Seconds x) h e = absurd (none_some a _ no-s (s.finds 8 (to_bits binary32 x) (pattern_fits x h) e))
-at_mark bs a b d s l c no-s no-l no-c (Metres x) h e = absurd (none_some b _ no-l (l.finds 8 (to_bits binary32 x) (pattern_fits x h) e))
-at_mark bs a b d s l c no-s no-l no-c (Count m) h e = absurd (no-c m h (c.finds 1 m (omega (arith, count_short m h)) e))
-at_mark bs a b d s l c no-s no-l no-c Mark h e = refl
+at_mark bs a b d s l c no_s no_l no_c (Seconds x) h e = absurd (none_some a _ no_s (s.finds 8 (to_bits binary32 x) (pattern_fits x h) e))
+at_mark bs a b d s l c no_s no_l no_c (Metres x) h e = absurd (none_some b _ no_l (l.finds 8 (to_bits binary32 x) (pattern_fits x h) e))
+at_mark bs a b d s l c no_s no_l no_c (Count m) h e = absurd (no_c m h (c.finds 1 m (omega (arith, count_short m h)) e))
+at_mark bs a b d s l c no_s no_l no_c Mark h e = refl
 
 -- ---- labels that making gives
 

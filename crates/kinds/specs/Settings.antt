@@ -1,15 +1,15 @@
 -- Setting labels: the meaning, what making one gives, and the texts. Assumes nothing.
 --
 --   Meant             a meaning: the sort with the value
---   meant_by v         the meaning of the setting v; a float counts by its bit pattern, and a float that is
+--   meant_by v        the meaning of the setting v; a float counts by its bit pattern, and a float that is
 --                     no number by the pattern 7FC00000
 --   meant s           the meaning of the label s
---   alike_meant m n    whether two meanings are one
+--   alike_meant m n   whether two meanings are one
 --   inside x          whether the float x is a number from 0 to 9,999
 --   legal v           whether the value of v is in its sort's range
 --   making v          what making a label of v answers
---   text_of m          the text of a label that means m
---   setting_text s     the text of the label s
+--   text_of m         the text of a label that means m
+--   setting_text s    the text of the label s
 --   Reads bs a b r    r is the n of a text bs that is the letter a, a colon and the digits of n in the base b; it is
 --                     none where bs begins otherwise
 --   Holds v           that 32 bits hold the float of v, and sixteen its count

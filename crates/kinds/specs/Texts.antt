@@ -1,11 +1,11 @@
 -- Text labels: the alphabet, the meaning, and what making one gives. Assumes nothing.
 --
 --   trimmed bs     the bytes before the zeros at the end of bs
---   bytes_of t      the bytes of the label t, which are its meaning
+--   bytes_of t     the bytes of the label t, which are its meaning
 --   equal as bs    whether two lists of bytes are one
 --   house b        whether the byte b is in the alphabet: A to Z, a to z, 0 to 9, and - . _ /
 --   legal bs       whether bs is a label's text: 1 to 16 bytes, all in the alphabet
---   label_of bs     the label of the text bs: its bytes, then zeros, sixteen in all
+--   label_of bs    the label of the text bs: its bytes, then zeros, sixteen in all
 --   making bs      what making a label of the text bs answers
 --   Kept t         what every label that is made keeps
 --   Made t         that making gives t

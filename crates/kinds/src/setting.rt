@@ -5,7 +5,6 @@ ghost use Rattle.bounded.specs.Lists.{held, room, Appended};
 ghost use Rattle.kinds.specs.declared.refusal.Refusal.TheVariants.{Setting as SettingRefused};
 ghost use Rattle.kinds.specs.Digits.{spelled};
 ghost use Rattle.kinds.specs.Settings.{Meant, meant_by, meant, alike_meant, inside, legal, making, text_of, setting_text, Reads, Holds, Made};
-ghost use Rattle.std.proofs.Common.{rules};
 ghost use Rattle.kinds.specs.SettingTexts.{setting_tied, settings_exact};
 
 use crate::digits::{append_digits, read_digits};

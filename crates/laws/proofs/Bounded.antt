@@ -47,8 +47,8 @@ opening_in g n h =
     record {
       a_node = omega (arith, h.some);
       a_frame = omega arith;
-      few_nodes_lem = omega (arith, h.few_nodes_lem);
-      few_arrows_lem = omega (arith, h.few_arrows_lem);
+      few_nodes = omega (arith, h.few_nodes);
+      few_arrows = omega (arith, h.few_arrows);
       few_frames = omega arith;
       few_comparisons = omega arith;
       nodes = sources_in (opening g) (omega arith) 0 g.nodes;

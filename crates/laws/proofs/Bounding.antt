@@ -87,8 +87,8 @@ module _ (s n : ℕ) where
         record {
           a_node = omega (arith, g.nodes, w.a_node);
           a_frame = w.a_frame;
-          few_nodes_lem = l;
-          few_arrows_lem = w.few_arrows_lem;
+          few_nodes = l;
+          few_arrows = w.few_arrows;
           few_frames = w.few_frames;
           few_comparisons = w.few_comparisons;
           nodes = from_join (NodeIn (more c xs)) 0 c.nodes xs (nodes_up c (more c xs) g 0 c.nodes w.nodes)
@@ -124,8 +124,8 @@ module _ (s n : ℕ) where
         record {
           a_node = w.a_node;
           a_frame = w.a_frame;
-          few_nodes_lem = w.few_nodes_lem;
-          few_arrows_lem = omega arith;
+          few_nodes = w.few_nodes;
+          few_arrows = omega arith;
           few_frames = w.few_frames;
           few_comparisons = w.few_comparisons;
           nodes = nodes_up c d g 0 c.nodes w.nodes;
@@ -163,8 +163,8 @@ module _ (s n : ℕ) where
         record {
           a_node = w.a_node;
           a_frame = omega arith;
-          few_nodes_lem = w.few_nodes_lem;
-          few_arrows_lem = w.few_arrows_lem;
+          few_nodes = w.few_nodes;
+          few_arrows = w.few_arrows;
           few_frames = omega arith;
           few_comparisons = w.few_comparisons;
           nodes = nodes_up c d g 0 c.nodes w.nodes;
@@ -193,8 +193,8 @@ module _ (s n : ℕ) where
         record {
           a_node = w.a_node;
           a_frame = w.a_frame;
-          few_nodes_lem = w.few_nodes_lem;
-          few_arrows_lem = w.few_arrows_lem;
+          few_nodes = w.few_nodes;
+          few_arrows = w.few_arrows;
           few_frames = w.few_frames;
           few_comparisons = omega arith;
           nodes = nodes_up c d g 0 c.nodes w.nodes;
@@ -356,7 +356,7 @@ module _ (s n : ℕ) where
         let e : length (c.nodes ++ hubs_made) ≡ length c.nodes + length hubs_made = length-append c.nodes hubs_made in
         let k : length hubs_made ≡ length (members 0 flags) * length (members 0 ms) =
         length_joined (λ v. map (hub_node p f v) (members 0 ms)) (length (members 0 ms)) (λ v. length-map (members 0 ms) (hub_node p f v)) (members 0 flags) in
-        let size : length c.nodes + length hubs_made ≤ 1024 = b w.few_nodes_lem in
+        let size : length c.nodes + length hubs_made ≤ 1024 = b w.few_nodes in
         let q =
         more_in c hubs_made w (omega arith)
         (every_joined _ (λ v. map (hub_node p f v) (members 0 ms)) (members 0 flags)

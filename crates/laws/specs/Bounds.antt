@@ -71,8 +71,8 @@ pub record ComparisonIn (s n : ℕ) (c : Course) (q : Comparison) : Type 0 where
 pub record CourseIn (s n : ℕ) (c : Course) : Type 0 where
   pub a_node : 0 < length c.nodes
   pub a_frame : 0 < length c.frames
-  pub few_nodes_lem : length c.nodes ≤ 1024
-  pub few_arrows_lem : length c.arrows ≤ 2048
+  pub few_nodes : length c.nodes ≤ 1024
+  pub few_arrows : length c.arrows ≤ 2048
   pub few_frames : length c.frames ≤ 512
   pub few_comparisons : length c.comparisons ≤ 1024
   pub nodes : EveryFrom (NodeIn c) 0 c.nodes
@@ -82,8 +82,8 @@ pub record CourseIn (s n : ℕ) (c : Course) : Type 0 where
 
 pub record Sound (g : Graph) : Type 0 where
   pub some : 1 ≤ g.nodes
-  pub few_nodes_lem : g.nodes ≤ 128
-  pub few_arrows_lem : length g.arrows ≤ 256
+  pub few_nodes : g.nodes ≤ 128
+  pub few_arrows : length g.arrows ≤ 256
   pub ends : inside g.nodes g.arrows ≡ true
 
 pub record Bounded (g : Graph) (n v : ℕ) (c : Course) : Type 0 where

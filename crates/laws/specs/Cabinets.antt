@@ -1,17 +1,17 @@
 -- Worked cases: two small cabinets, each computed by the rules. Assumes nothing.
 --
---   computes             opened, it lets a run be computed
---   Name, named          the labels of the two cabinets, told apart by their numbers
---   alike_names           whether two of them are one
---   node p f m v, ..     entries of a course by their parts, in the order in which they are told
---   sizes                the whole's node, and how many nodes, arrows, frames and comparisons a finished run left
+--   computes               opened, it lets a run be computed
+--   Name, named            the labels of the two cabinets, told apart by their numbers
+--   alike_names            whether two of them are one
+--   node p f m v, ..       entries of a course by their parts, in the order in which they are told
+--   sizes                  the whole's node, and how many nodes, arrows, frames and comparisons a finished run left
 --   cabinet_p, view_p      three nodes; arrows 0-1 North, 1-2 Loop7, 1-2 Loop8; constant Loop8; places O,0  E,v1,0  N
---                        I,v1,c0,2,1  G,0  R,3,4
+--                          I,v1,c0,2,1  G,0  R,3,4
 --   run_p, course_p        its run, and the course that the rules give
 --   cabinet_q, view_q      two nodes; arrow 0-1 North; constant Site; places G,0  G,0  E,c0,1  U,0,2
 --   run_q, course_q        its run, and the course that the rules give
 --   by_number_p, ..        the same runs over class numbers
---   WorkedCourses       the list of the cases
+--   WorkedCourses          the list of the cases
 use Rattle.std.specs.Prelude.{◌≡◌, ℕ, Bool, true, List, [], ◌∷◌, length, ◌==◌}
 use Rattle.expression.specs.declared.form.Form.TheVariants.{Node as FormNode, Edge, Union, Out, Graph as FormGraph, If, Recursion}
 use Rattle.expression.specs.declared.term.Term.TheVariants.{Constant as Fixed, Variable}

@@ -2,7 +2,7 @@
 --
 --   Begins xs ys   ys begins with xs
 --   Extends c d    each list of the course d begins with that of c
---   OnlyAdds      a finished evaluation leaves a course that extends the one that it went on from, and so the course of a
+--   OnlyAdds       a finished evaluation leaves a course that extends the one that it went on from, and so the course of a
 --                  finished run extends the source's entries
 use Rattle.std.specs.Prelude.{◌≡◌, ℕ, List, ◌++◌}
 use Rattle.expression.specs.Forms.{Tree}

@@ -5,16 +5,16 @@
 --   label_of labels constants o    the label of the origin o; none where it is blank or the table is too short
 --   same_labels alike x y          Same where there are two labels and they are alike
 --   by_label alike ls ks           the comparison that asks of the two origins' labels themselves whether they are alike
---   Tells s n meaning ls ks cs    of s source arrows and n constants, two have equal class numbers exactly where their
---                                 labels have equal meanings
---   Long g n ls ks                the tables have a label for each arrow of g and for each of n constants
---   Agrees meaning ls ks q        the two origins of the comparison q have labels, and the outcome is Same exactly where
---                                 these have equal meanings
+--   Tells s n meaning ls ks cs     of s source arrows and n constants, two have equal class numbers exactly where their
+--                                  labels have equal meanings
+--   Long g n ls ks                 the tables have a label for each arrow of g and for each of n constants
+--   Agrees meaning ls ks q         the two origins of the comparison q have labels, and the outcome is Same exactly where
+--                                  these have equal meanings
 --
---   ClassesStand                 the run over class numbers is the run that asks the labels themselves
---   RecordedMeanings             every comparison that a finished run recorded agrees with the labels
---   SameCourseMeanings          a second labelling's run takes exactly the same course if and only if its labels agree
---                                 with every comparison recorded in the first's
+--   ClassesStand                   the run over class numbers is the run that asks the labels themselves
+--   RecordedMeanings               every comparison that a finished run recorded agrees with the labels
+--   SameCourseMeanings             a second labelling's run takes exactly the same course if and only if its labels agree
+--                                  with every comparison recorded in the first's
 use Rattle.std.specs.Prelude.{◌≡◌, ℕ, ◌≤◌, Bool, true, cond, ◌↔◌, List, length, Some, None, Option}
 use Rattle.std.specs.List.{slice_get}
 use Rattle.expression.specs.Forms.{Tree}

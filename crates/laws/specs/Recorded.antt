@@ -2,7 +2,7 @@
 --
 --   Holds cmp q    the comparison q has the outcome that cmp gives to its two origins
 --   Recorded       every comparison that a finished run recorded has the outcome that the run's own way to compare gives
---   SameCourse    a second way to compare leads a finished run to the same answer and the same course if and only if it
+--   SameCourse     a second way to compare leads a finished run to the same answer and the same course if and only if it
 --                  gives every comparison recorded there the outcome recorded there
 use Rattle.std.specs.Prelude.{◌≡◌, ℕ, ◌↔◌}
 use Rattle.expression.specs.Forms.{Tree}

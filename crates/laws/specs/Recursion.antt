@@ -1,33 +1,33 @@
 -- The rule of a recursion over lists: S, the nodes that arrows reach, and T, the arrows that leave them. Assumes nothing.
 --
---   members i bs      the numbers of the flags of bs that are set, counted from i on
---   Numbered          an arrow with its number
---   leaving S k as    those of the arrows as, numbered from k on, whose tail is in S
+--   members i bs       the numbers of the flags of bs that are set, counted from i on
+--   Numbered           an arrow with its number
+--   leaving S k as     those of the arrows as, numbered from k on, whose tail is in S
 --   nodes_reached c r  S: the nodes that the arrows of the course c reach from r
---   below v xs        how many numbers of xs are below v
+--   below v xs         how many numbers of xs are below v
 --   hub_of h S M v m   the number of the hub (v, m), where the hubs of S for the markers M are numbered from h on, by node
---                     upwards and for each node by marker upwards
+--                      upwards and for each node by marker upwards
 --   hub_node p f v m   the hub (v, m): a node with the marker m that stands for v
 --   enter_hubs         a hub for each v of S upwards and each m of M upwards
 --   take_arrow         what an arrow of T does, from u to t. Blank: a blank arrow from hub (u, m) to hub (t, m) for each m.
---                     Otherwise: a new frame, the body in it with the arrow's origin and t as its variables, for each m a
---                     blank arrow from hub (u, m) to the body's node for m, and for each out (w, m) with m in M a blank
---                     arrow from w to hub (t, m)
+--                      Otherwise: a new frame, the body in it with the arrow's origin and t as its variables, for each m a
+--                      blank arrow from hub (u, m) to the body's node for m, and for each out (w, m) with m in M a blank
+--                      arrow from w to hub (t, m)
 --   recur_over         the rule: the hubs of S, then T upwards; marker m maps to hub (r, m)
 --
---   MembersExact     members are ascending, and are exactly the numbers of the flags that are set: so are the markers of a
---                     set, upwards
---   NodesExact       S is ascending and has exactly the nodes that arrows, of any origin, reach from r
---   ArrowsExact      T is ascending and has exactly the arrows with their tail in S, each with its number
---   RecursionRule    a recursion is the run of this rule over S and T
---   HubNumbers       hubs are numbered alike by sets of flags and by the lists of their members
---   HubsExact        the hubs that are made: after them the course has these nodes more and nothing else has changed, and
---                     hub (v, m) is the node with the number hub_of, has the marker m and stands for v
---   Recursed ..       what a finished evaluation of a recursion left in the course d with the answer m: it ran the
---                     argument first, and S is what arrows of the course that this left reach from its node r. For each
---                     v of S and each marker there is the hub, which stands for v; the answer maps the marker to the hub
---                     of r and leaves nothing open
---   HubsStand        this holds of every finished evaluation of a recursion
+--   MembersExact       members are ascending, and are exactly the numbers of the flags that are set: so are the markers of a
+--                      set, upwards
+--   NodesExact         S is ascending and has exactly the nodes that arrows, of any origin, reach from r
+--   ArrowsExact        T is ascending and has exactly the arrows with their tail in S, each with its number
+--   RecursionRule      a recursion is the run of this rule over S and T
+--   HubNumbers         hubs are numbered alike by sets of flags and by the lists of their members
+--   HubsExact          the hubs that are made: after them the course has these nodes more and nothing else has changed, and
+--                      hub (v, m) is the node with the number hub_of, has the marker m and stands for v
+--   Recursed ..        what a finished evaluation of a recursion left in the course d with the answer m: it ran the
+--                      argument first, and S is what arrows of the course that this left reach from its node r. For each
+--                      v of S and each marker there is the hub, which stands for v; the answer maps the marker to the hub
+--                      of r and leaves nothing open
+--   HubsStand          this holds of every finished evaluation of a recursion
 use Rattle.std.specs.Prelude.{◌≡◌, ℕ, suc, ◌+◌, ◌*◌, ◌<◌, Bool, true, false, cond, ◌↔◌, List, [], ◌∷◌, ◌++◌, map, length, get_or, nat_lt, slice_index, slice_index_or}
 use Rattle.std.specs.List.{flat_map}
 use Rattle.expression.specs.Forms.{Tree, t_recursion, ins}

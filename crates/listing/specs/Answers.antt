@@ -2,7 +2,7 @@
 --
 -- A kind of labels is told by four things: the text of a label, that making gives it, why another text is refused,
 -- and the meaning of a label.
---   meaning_of a       the meaning of the label of an answer, if it has one
+--   meaning_of a      the meaning of the label of an answer, if it has one
 --   Answers as l a    a is the answer to the line l after the answers as: the label that has this text, with the
 --                     lowest line whose label is the same, or the refusal of a line that is no label's text
 --   Listed ls as      as has the answer to each of the lines ls, each after those before it

@@ -1,12 +1,12 @@
 -- The blank arrows that leave each node, as chains. Assumes nothing.
 --
---   none                  the arrow that stands past the end of a list, as code reads it
---   Fit arrows            there are at most 2,048 arrows, and the ends of each are below 1,024
+--   none                   the arrow that stands past the end of a list, as code reads it
+--   Fit arrows             there are at most 2,048 arrows, and the ends of each are below 1,024
 --   blank_from arrows v k  whether the arrow with the number k is blank and leaves v
---   latest arrows v n     the latest of the first n arrows that is blank and leaves v: its number plus one, or 0 for none
---   outs arrows v n       the heads of the blank ones of the first n arrows that leave v, the latest first
---   Linked                first has for each node its latest blank arrow, and next for each blank arrow the latest
---                         blank one before it with the same tail
+--   latest arrows v n      the latest of the first n arrows that is blank and leaves v: its number plus one, or 0 for none
+--   outs arrows v n        the heads of the blank ones of the first n arrows that leave v, the latest first
+--   Linked                 first has for each node its latest blank arrow, and next for each blank arrow the latest
+--                          blank one before it with the same tail
 use Rattle.std.specs.Prelude.{◌≡◌, ℕ, zero, suc, ◌<◌, ◌≤◌, Bool, true, cond, ◌&&◌, List, [], ◌∷◌, length, ◌==◌, slice_index, slice_index_or}
 use Rattle.course.specs.declared.course.Arrow.{Arrow}
 use Rattle.course.specs.declared.course.Origin.TheVariants.{Blank}

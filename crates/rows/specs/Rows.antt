@@ -10,12 +10,12 @@
 -- Computed, for n nodes:
 --   near arrows u          u and all that blank arrows reach from it
 --   leads s a              whether the arrow a is not blank and has its tail in s
---   row_of u a              the row of the node u with the arrow a
---   rows_at arrows u        the rows that u has if it is shown, by arrow
+--   row_of u a             the row of the node u with the arrow a
+--   rows_at arrows u       the rows that u has if it is shown, by arrow
 --   step r                 a row as a step from its node to its head
 --   steps arrows n         the steps that the rows of n nodes make, of shown nodes and of others
 --   shown arrows n root    the shown ones of n nodes, upwards: those that the steps lead to from the root
---   rows_of arrows n root   the rows, by node and then by arrow
+--   rows_of arrows n root  the rows, by node and then by arrow
 use Rattle.std.specs.Prelude.{◌≡◌, ℕ, ◌<◌, Bool, false, not, ◌&&◌, List, [], ◌∷◌, map, length, filter, slice_index_or}
 use Rattle.std.specs.List.{flat_map}
 use Rattle.course.specs.declared.course.Arrow.{Arrow}

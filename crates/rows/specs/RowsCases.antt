@@ -1,7 +1,7 @@
 -- The rows of small cabinets, worked out from the rules. Assumes nothing.
 --
 --   computes     opens the definitions of the run and of the rows, so that they compute
---   rows_in       the rows of a course that a run ended with, from the whole's node for marker 0; none of a run that is full
+--   rows_in      the rows of a course that a run ended with, from the whole's node for marker 0; none of a run that is full
 --   row          a row from its node, its head, its origin, its place and its frame
 --   parallel     a cabinet of three nodes, arrows 0-1, 1-2 and 1-2 whose labels are apart, and one constant with the
 --                label of the last. Its expression follows the arrows and leaves out those with the constant's label

@@ -2,9 +2,9 @@
 --
 -- Marks are flags, one for each node.
 --   lead n steps r       for each of n nodes, whether it is r or steps lead to it from r
---   listed_after m v h    the list h with the node v at its end, unless v is marked in m
---   marks_after vs m      the marks m after each of vs is marked
---   list_after vs m h     the list h after each of vs is listed as it is marked
+--   listed_after m v h   the list h with the node v at its end, unless v is marked in m
+--   marks_after vs m     the marks m after each of vs is marked
+--   list_after vs m h    the list h after each of vs is listed as it is marked
 --   Popped h g r         the last of the list h is taken off and is r, which leaves g; None where h is empty
 --   Lies b c             c lies in the slots of b
 --   Ready m b            the list b has room for 1,024 nodes, and no more nodes than are marked in m

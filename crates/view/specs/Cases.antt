@@ -1,15 +1,15 @@
 -- The worked cases, in one list: those of the expressions, the courses and the rows, and the views of two small cabinets
 -- with text labels. Assumes nothing.
 --
---   alike_texts           whether two text labels are one
+--   alike_texts            whether two text labels are one
 --   labels_p, constants_p  the labels of cabinet P: North, Loop7, Loop8, and the constant Loop8
 --   labels_q, constants_q  those of cabinet Q: North, and the constant Site
---   rows_p                node 3 to 6 North; node 6 to 8 Loop7
---   rows_q                node 0 to 1 North; node 3 to 1 North; node 3 to 0 Site
+--   rows_p                 node 3 to 6 North; node 6 to 8 Loop7
+--   rows_q                 node 0 to 1 North; node 3 to 1 North; node 3 to 0 Site
 --   viewed_p, viewed_q     what the two cabinets show
---   viewed_alone          what one node without arrows shows under the source's root
---   course_alone          its course
---   WorkedCases         the list
+--   viewed_alone           what one node without arrows shows under the source's root
+--   course_alone           its course
+--   WorkedCases            the list
 use Rattle.std.specs.Prelude.{◌≡◌, Bool, List, [], ◌∷◌, Ok, Err, codes, Result}
 use Rattle.kinds.specs.declared.text.TextLabel.{TextLabel}
 use Rattle.kinds.specs.Texts.{bytes_of, equal, label_of}

@@ -1,6 +1,6 @@
 -- The laws that every view keeps, in one list. Assumes nothing.
 --
--- Run-laws: of every run, whatever it compares
+-- RunLaws: of every run, whatever it compares
 --   recorded        every comparison of a finished run has the outcome that the run's own comparing gives
 --   same_course     another way to compare takes the same course if and only if it agrees with every recorded comparison
 --   bounds          the entries of a finished run name entries that there are, and each list is within its size
@@ -11,7 +11,7 @@
 --   hub_numbers, hubs, hubs_stand    the hubs' numbers, the hubs that are made, and what they stand for
 --   rows            the rows are exactly the shown nodes with the arrows that lead on, by node and then by arrow, each once
 --
--- Label-laws alike meaning: of every kind of label, whose labels are alike where their meanings are equal
+-- LabelLaws alike meaning: of every kind of label, whose labels are alike where their meanings are equal
 --   classes         the run over class numbers is the run that asks the labels themselves
 --   recorded        every comparison of a finished run agrees with the two labels' meanings
 --   same_course     a second labelling takes the same course if and only if it agrees with every recorded comparison
