@@ -3,7 +3,9 @@ use crate::written::{read_number, read_place};
 use expression::admit::admit;
 use expression::expression::Expression;
 use expression::raw::RawPlace;
-use std::alloc::{AllocError, Global};
+use std::alloc::{AllocError, AllocFailed, Global};
+use std::error::Error;
+use std::fmt;
 use std::io::Read;
 
 // An expression as its lines tell it.
@@ -13,34 +15,48 @@ struct Written {
     places: Vec<RawPlace>,
 }
 
-// What the lines of a text are.
-#[derive(Drop)]
-enum Reading {
-    // an expression in its written form
-    Expression(Written),
+// Why the lines of a text are not read.
+#[derive(Clone, Copy, Debug, PartialEq, Eq)]
+enum Unread {
     // a line that cannot be read, counted from 1
     BadLine(usize),
+    OutOfMemory,
+}
+
+impl fmt::Display for Unread {
+    fn fmt<W: fmt::Write>(&self, f: &mut fmt::Formatter<W>) -> fmt::Result {
+        match self {
+            Unread::BadLine(line) => write!(f, "bad line {line}"),
+            Unread::OutOfMemory => write!(f, "out of memory"),
+        }
+    }
+}
+
+impl Error for Unread {}
+
+impl From<AllocFailed<RawPlace>> for Unread {
+    fn from(_error: AllocFailed<RawPlace>) -> Unread {
+        Unread::OutOfMemory
+    }
 }
 
 // Reads the number of constants on the first line, and a place on each line after it.
-fn read_lines(heap: Global, text: &str) -> anyhow::Result<Reading> {
+fn read_lines(heap: Global, text: &str) -> Result<Written, Unread> {
     let mut lines = text.strip_suffix('\n').unwrap_or(text).split('\n');
-    let first = lines
+    let constants = lines
         .next()
-        .unwrap_or("")
-        .strip_prefix("const=")
-        .unwrap_or("");
-    let Some(constants) = read_number(first) else {
-        return Ok(Reading::BadLine(1));
-    };
+        .and_then(|line| line.strip_prefix("const="))
+        .and_then(read_number)
+        .ok_or(Unread::BadLine(1))?;
     let mut places = Vec::new(heap);
-    for line in lines {
-        let Some(place) = read_place(line.strip_prefix("place=").unwrap_or("")) else {
-            return Ok(Reading::BadLine(places.len().saturating_add(2)));
-        };
+    for (i, line) in lines.enumerate() {
+        let place = line
+            .strip_prefix("place=")
+            .and_then(read_place)
+            .ok_or(Unread::BadLine(i.saturating_add(2)))?;
         places.push(place)?;
     }
-    Ok(Reading::Expression(Written { constants, places }))
+    Ok(Written { constants, places })
 }
 
 // The line that says whether the expression is admitted.
@@ -67,9 +83,10 @@ fn admission_line(heap: Global, written: &Written) -> Result<String, AllocError>
 
 // The answer to an expression in its written form.
 fn answer(heap: Global, text: &str) -> anyhow::Result<String> {
-    match read_lines(heap, text)? {
-        Reading::Expression(written) => Ok(admission_line(heap, &written)?),
-        Reading::BadLine(line) => Ok(format!(in heap; "bad line {line}")?),
+    match read_lines(heap, text) {
+        Ok(written) => Ok(admission_line(heap, &written)?),
+        Err(unread @ Unread::BadLine(_)) => Ok(format!(in heap; "{unread}")?),
+        Err(unread) => Err(unread.into()),
     }
 }
 

@@ -8,19 +8,16 @@ pub fn read_number(text: &str) -> Option<usize> {
     if text.starts_with('+') || (text.starts_with('0') && text.len() > 1) {
         return None;
     }
-    match text.parse::<u16>() {
-        Ok(number) => Some(number as usize),
-        Err(_) => None,
-    }
+    text.parse::<u16>().ok().map(usize::from)
 }
 
 // A term: `c0` is constant 0, and `v1` label variable 1.
 fn read_term(text: &str) -> Option<Term> {
-    if let Some(number) = text.strip_prefix('c') {
-        return Some(Term::Constant(read_number(number)?));
+    match text.split_at_checked(1)? {
+        ("c", number) => read_number(number).map(Term::Constant),
+        ("v", number) => read_number(number).map(Term::Variable),
+        _ => None,
     }
-    let number = text.strip_prefix('v')?;
-    Some(Term::Variable(read_number(number)?))
 }
 
 // A place with this letter and nothing else.
@@ -88,8 +85,5 @@ pub fn read_place(text: &str) -> Option<RawPlace> {
         return None;
     }
     let place = read_fields(letter, &mut fields)?;
-    match fields.next() {
-        Some(_) => None,
-        None => Some(place),
-    }
+    fields.next().is_none().then_some(place)
 }

@@ -4,7 +4,18 @@ use expression::raw::RawPlace;
 use kinds::text::TextLabel;
 use std::alloc::Global;
 
-// A source with its labels, and an expression with its constants.
+// A cabinet as it is written: how many nodes its source has, and its arrows, the places of its
+// expression and the constants, each parted by spaces.
+#[derive(Clone, Copy)]
+pub struct Written {
+    pub nodes: usize,
+    pub arrows: &'static str,
+    pub places: &'static str,
+    pub constants: &'static str,
+}
+
+// A source with its labels, and an expression with its constants. The arrows' ends and their labels
+// are two lists, since that is how a view takes them.
 #[derive(Drop)]
 pub struct Cabinet {
     pub nodes: usize,
@@ -15,45 +26,32 @@ pub struct Cabinet {
 }
 
 impl Cabinet {
-    // A cabinet without arrows.
-    pub fn bare(
-        heap: Global,
-        nodes: usize,
-        places: &str,
-        constants: &str,
-    ) -> anyhow::Result<Cabinet> {
-        Ok(Cabinet {
-            nodes,
+    pub fn read(heap: Global, written: &Written) -> anyhow::Result<Cabinet> {
+        let mut cabinet = Cabinet {
+            nodes: written.nodes,
             arrows: Vec::new(heap),
             labels: Vec::new(heap),
-            places: read_places(heap, places)?,
-            constants: read_labels(heap, constants)?,
-        })
-    }
-
-    // A cabinet with the arrows that spaces part.
-    pub fn read(
-        heap: Global,
-        nodes: usize,
-        arrows: &str,
-        places: &str,
-        constants: &str,
-    ) -> anyhow::Result<Cabinet> {
-        let mut cabinet = Cabinet::bare(heap, nodes, places, constants)?;
-        for word in arrows.split_whitespace() {
+            places: read_places(heap, written.places)?,
+            constants: read_labels(heap, written.constants)?,
+        };
+        for word in written.arrows.split_whitespace() {
             let (ends, label) = read_arrow(word)?;
-            cabinet.arrows.push(ends)?;
-            cabinet.labels.push(label)?;
+            cabinet.add_arrow(ends, label)?;
         }
         Ok(cabinet)
+    }
+
+    fn add_arrow(&mut self, ends: (usize, usize), label: TextLabel) -> anyhow::Result<()> {
+        self.arrows.push(ends)?;
+        self.labels.push(label)?;
+        Ok(())
     }
 
     // So many more arrows with these ends, all with one label.
     pub fn add_arrows(&mut self, count: usize, ends: (usize, usize)) -> anyhow::Result<()> {
         let label = read_label("Loop")?;
         for _ in 0..count {
-            self.arrows.push(ends)?;
-            self.labels.push(label)?;
+            self.add_arrow(ends, label)?;
         }
         Ok(())
     }
@@ -62,8 +60,7 @@ impl Cabinet {
     pub fn add_apart(&mut self, heap: Global, count: usize) -> anyhow::Result<()> {
         for k in 0..count {
             let text = format!(in heap; "Loop{k}")?;
-            self.arrows.push((0, 0))?;
-            self.labels.push(read_label(text.as_str())?)?;
+            self.add_arrow((0, 0), read_label(text.as_str())?)?;
         }
         Ok(())
     }
@@ -72,11 +69,8 @@ impl Cabinet {
     pub fn add_ring(&mut self) -> anyhow::Result<()> {
         let label = read_label("Ring")?;
         for node in 1..self.nodes {
-            self.arrows.push((node - 1, node))?;
-            self.labels.push(label)?;
+            self.add_arrow((node - 1, node), label)?;
         }
-        self.arrows.push((self.nodes.saturating_sub(1), 0))?;
-        self.labels.push(label)?;
-        Ok(())
+        self.add_arrow((self.nodes.saturating_sub(1), 0), label)
     }
 }

@@ -1,103 +1,58 @@
-// Prints the entries of a view's course.
-use course::course::{Origin, Outcome};
+// Prints the entries of a view's course, and its rows.
+use crate::screen::Screen;
+use course::course::Origin;
+use kinds::filed::{FiledLabel, TEXT_SIZE};
 use std::fmt;
-use view::view::View;
+use std::str::from_utf8;
 
-// An origin as it is printed: `a0` for a source arrow, `c0` for a constant, `-` for none.
-#[derive(Clone, Copy)]
-pub struct Written(pub Origin);
-
-impl fmt::Display for Written {
-    fn fmt<W: fmt::Write>(&self, f: &mut fmt::Formatter<W>) -> fmt::Result {
-        match self.0 {
-            Origin::Blank => write!(f, "-"),
-            Origin::Source(arrow) => write!(f, "a{arrow}"),
-            Origin::Constant(constant) => write!(f, "c{constant}"),
-        }
+// The label of an origin, if there is one.
+fn label_of<L: FiledLabel>(labels: &[L], constants: &[L], origin: Origin) -> Option<L> {
+    match origin {
+        Origin::Blank => None,
+        Origin::Source(arrow) => labels.get(arrow).copied(),
+        Origin::Constant(constant) => constants.get(constant).copied(),
     }
 }
 
-// Prints how many entries and rows there are.
-pub fn print_sizes(rt: &HostRuntime, view: &View) -> anyhow::Result<()> {
-    let sizes = view.sizes();
-    let nodes = sizes.nodes;
-    let arrows = sizes.arrows;
-    let frames = sizes.frames;
-    let comparisons = sizes.comparisons;
-    let rows = view.row_count();
-    println!(rt;
-        "nodes={nodes} arrows={arrows} frames={frames} comparisons={comparisons} rows={rows}"
-    )?;
-    Ok(())
-}
-
-fn print_nodes(rt: &HostRuntime, view: &View) -> anyhow::Result<()> {
-    for i in 0..view.sizes().nodes {
-        if let Some(node) = view.node(i) {
-            let place = node.place;
-            let frame = node.frame;
-            let marker = node.marker;
-            let stands = node.stands;
-            println!(rt; "node {i} place={place} frame={frame} marker={marker} stands={stands}")?;
-        }
+impl Screen<'_> {
+    // Prints how many entries and rows there are.
+    pub fn print_sizes(&self) -> anyhow::Result<()> {
+        let sizes = self.view.sizes();
+        let rows = self.view.row_count();
+        println!(self.rt; "{sizes} rows={rows}")?;
+        Ok(())
     }
-    Ok(())
-}
 
-fn print_arrows(rt: &HostRuntime, view: &View) -> anyhow::Result<()> {
-    for i in 0..view.sizes().arrows {
-        if let Some(arrow) = view.arrow(i) {
-            let tail = arrow.tail;
-            let head = arrow.head;
-            let origin = Written(arrow.origin);
-            let place = arrow.place;
-            let frame = arrow.frame;
-            println!(rt;
-                "arrow {i} tail={tail} head={head} origin={origin} place={place} frame={frame}"
-            )?;
+    // Prints entries, each after its name and its number.
+    fn print_entries<E: fmt::Display>(&self, name: &str, entries: &[E]) -> anyhow::Result<()> {
+        for (i, entry) in entries.iter().enumerate() {
+            println!(self.rt; "{name} {i} {entry}")?;
         }
+        Ok(())
     }
-    Ok(())
-}
 
-fn print_frames(rt: &HostRuntime, view: &View) -> anyhow::Result<()> {
-    for i in 0..view.sizes().frames {
-        if let Some(frame) = view.frame(i) {
-            let parent = frame.parent;
-            let place = frame.place;
-            let arrow = frame.arrow;
-            println!(rt; "frame {i} parent={parent} place={place} arrow={arrow}")?;
+    // Prints the node that is shown first and every entry.
+    pub fn print_course(&self) -> anyhow::Result<()> {
+        if let Some(node) = self.view.first_node() {
+            println!(self.rt; "shown {node}")?;
         }
+        self.print_entries("node", self.view.nodes())?;
+        self.print_entries("arrow", self.view.arrows())?;
+        self.print_entries("frame", self.view.frames())?;
+        self.print_entries("comparison", self.view.comparisons())
     }
-    Ok(())
-}
 
-fn print_comparisons(rt: &HostRuntime, view: &View) -> anyhow::Result<()> {
-    for i in 0..view.sizes().comparisons {
-        if let Some(comparison) = view.comparison(i) {
-            let place = comparison.place;
-            let frame = comparison.frame;
-            let left = Written(comparison.left);
-            let right = Written(comparison.right);
-            let outcome = match comparison.outcome {
-                Outcome::Same => "yes",
-                Outcome::Other => "no",
+    // Prints every row with its label.
+    pub fn print_rows<L: FiledLabel>(&self, labels: &[L], constants: &[L]) -> anyhow::Result<()> {
+        for (i, row) in self.view.rows().iter().enumerate() {
+            let Some(label) = label_of(labels, constants, row.origin) else {
+                continue;
             };
-            println!(rt;
-                "comparison {i} place={place} frame={frame} left={left} right={right} outcome={outcome}"
-            )?;
+            let mut buffer = [0u8; TEXT_SIZE];
+            let len = label.write_text(&mut buffer).unwrap_or(0).min(TEXT_SIZE);
+            let text = from_utf8(&buffer[..len])?;
+            println!(self.rt; "row {i} {row} label={text}")?;
         }
+        Ok(())
     }
-    Ok(())
-}
-
-// Prints the node that is shown first and every entry.
-pub fn print_course(rt: &HostRuntime, view: &View) -> anyhow::Result<()> {
-    if let Some(node) = view.first_node() {
-        println!(rt; "shown {node}")?;
-    }
-    print_nodes(rt, view)?;
-    print_arrows(rt, view)?;
-    print_frames(rt, view)?;
-    print_comparisons(rt, view)
 }

@@ -1,60 +1,75 @@
 // Sources and tables that are refused.
-use crate::cabinet::Cabinet;
-use crate::show::{Detail, admit_places, show_cabinet, show_labelled};
+use crate::cabinet::{Cabinet, Written};
+use crate::loops::Loops;
+use crate::screen::{Detail, Screen, admit_places};
 use anyhow::anyhow;
 use course::source::Source;
-use view::view::View;
 
-// Shows so many nodes with so many arrows from the root to itself.
-fn show_counts(
-    rt: &HostRuntime,
-    view: &mut View,
-    name: &str,
-    nodes: usize,
-    loops: usize,
-) -> anyhow::Result<()> {
-    let mut cabinet = Cabinet::bare(rt.alloc(), nodes, "G,0", "")?;
-    cabinet.add_arrows(loops, (0, 0))?;
-    show_cabinet(rt, view, name, &cabinet, Detail::Sizes)
-}
-
-// Shows a cabinet of one arrow and one constant with so many labels and so many constants; what
-// was shown before stays.
-fn show_short(
-    rt: &HostRuntime,
-    view: &mut View,
-    name: &str,
-    labels: &str,
-    constants: &str,
-) -> anyhow::Result<()> {
-    println!(rt; "case {name}")?;
-    let heap = rt.alloc();
-    let cabinet = Cabinet::read(heap, 2, "0,1,North", "G,0 E,c0,0", "Site")?;
-    let tables = Cabinet::read(heap, 2, labels, "", constants)?;
-    let expression = admit_places(&cabinet)?;
-    match Source::new(cabinet.nodes, cabinet.arrows.as_slice()) {
-        Ok(source) => show_labelled(
-            rt,
-            view,
-            &source,
-            &expression,
-            tables.labels.as_slice(),
-            tables.constants.as_slice(),
-            Detail::Sizes,
-        ),
-        Err(_) => Err(anyhow!("a source is refused")),
+// A cabinet of one arrow and one constant.
+fn written(arrows: &'static str, constants: &'static str) -> Written {
+    Written {
+        nodes: 2,
+        arrows,
+        places: "G,0 E,c0,0",
+        constants,
     }
 }
 
+// Shows such a cabinet with the labels and the constants of another; what was shown before stays
+// where these are too few.
+fn show_short(screen: &mut Screen, name: &str, tables: &Written) -> anyhow::Result<()> {
+    println!(screen.rt; "case {name}")?;
+    let heap = screen.rt.alloc();
+    let cabinet = Cabinet::read(heap, &written("0,1,North", "Site"))?;
+    let tables = Cabinet::read(heap, tables)?;
+    let expression = admit_places(&cabinet)?;
+    let source = Source::new(cabinet.nodes, cabinet.arrows.as_slice()).map_err(|_| anyhow!(
+        "a source is refused"
+    ))?;
+    screen.show_labelled(
+        &source,
+        &expression,
+        tables.labels.as_slice(),
+        tables.constants.as_slice(),
+        Detail::Sizes,
+    )
+}
+
+// Shows so many nodes with so many arrows from the root to itself.
+fn show_counts(screen: &mut Screen) -> anyhow::Result<()> {
+    let cases = [
+        Loops::at_root("128 nodes and 256 arrows", 128, 256, "G,0"),
+        Loops::at_root("no node", 0, 0, "G,0"),
+        Loops::at_root("129 nodes", 129, 0, "G,0"),
+        Loops::at_root("257 arrows", 1, 257, "G,0"),
+    ];
+    for case in &cases {
+        let cabinet = case.cabinet(screen.rt.alloc())?;
+        screen.show_cabinet(case.name, &cabinet, Detail::Sizes)?;
+    }
+    Ok(())
+}
+
 // Shows all of them.
-pub fn show_all(rt: &HostRuntime, view: &mut View) -> anyhow::Result<()> {
-    show_counts(rt, view, "128 nodes and 256 arrows", 128, 256)?;
-    show_counts(rt, view, "no node", 0, 0)?;
-    show_counts(rt, view, "129 nodes", 129, 0)?;
-    show_counts(rt, view, "257 arrows", 1, 257)?;
-    let outside = Cabinet::read(rt.alloc(), 2, "0,1,North 1,2,East 2,2,South", "G,0", "")?;
-    show_cabinet(rt, view, "an end that is no node", &outside, Detail::Sizes)?;
-    show_short(rt, view, "a label for the arrow", "0,1,North", "Site")?;
-    show_short(rt, view, "no label for the arrow", "", "Site")?;
-    show_short(rt, view, "no label for the constant", "0,1,North", "")
+pub fn show_all(screen: &mut Screen) -> anyhow::Result<()> {
+    show_counts(screen)?;
+    let loose = Written {
+        nodes: 2,
+        arrows: "0,1,North 1,2,East 2,2,South",
+        places: "G,0",
+        constants: "",
+    };
+    let outside = Cabinet::read(screen.rt.alloc(), &loose)?;
+    screen.show_cabinet("an end that is no node", &outside, Detail::Sizes)?;
+    show_short(
+        screen,
+        "a label for the arrow",
+        &written("0,1,North", "Site"),
+    )?;
+    show_short(screen, "no label for the arrow", &written("", "Site"))?;
+    show_short(
+        screen,
+        "no label for the constant",
+        &written("0,1,North", ""),
+    )
 }

@@ -1,5 +1,5 @@
 // Places, arrows and labels as they are written: `E,v1,0`, `0,1,North`.
-use anyhow::anyhow;
+use anyhow::{Context, anyhow};
 use expression::raw::RawPlace;
 use expression::term::Term;
 use kinds::text::TextLabel;
@@ -7,82 +7,57 @@ use std::alloc::Global;
 
 // The label of a text.
 pub fn read_label(text: &str) -> anyhow::Result<TextLabel> {
-    match TextLabel::make(text.as_bytes()) {
-        Ok(label) => Ok(label),
-        Err(_) => Err(anyhow!("a text is no label")),
-    }
+    TextLabel::make(text.as_bytes()).map_err(|_| anyhow!("a text is no label"))
 }
 
 // The labels that spaces part.
 pub fn read_labels(heap: Global, text: &str) -> anyhow::Result<Vec<TextLabel>> {
-    let mut labels = Vec::new(heap);
-    for word in text.split_whitespace() {
-        labels.push(read_label(word)?)?;
-    }
-    Ok(labels)
+    text.split_whitespace().map(read_label).try_collect(heap)
 }
 
 // An arrow, `0,1,North`: its tail, its head and its label.
 pub fn read_arrow(text: &str) -> anyhow::Result<((usize, usize), TextLabel)> {
-    let Some((tail, rest)) = text.split_once(",") else {
-        return Err(anyhow!("an arrow lacks its head"));
-    };
-    let Some((head, label)) = rest.split_once(",") else {
-        return Err(anyhow!("an arrow lacks its label"));
-    };
-    let ends = (tail.parse::<usize>()?, head.parse::<usize>()?);
-    Ok((ends, read_label(label)?))
+    let (tail, rest) = text.split_once(",").context("an arrow lacks its head")?;
+    let (head, label) = rest.split_once(",").context("an arrow lacks its label")?;
+    Ok(((tail.parse()?, head.parse()?), read_label(label)?))
 }
 
 // The fields of a place as they come: terms are told by their letter, the others are numbers.
 #[derive(Clone, Copy)]
 struct Fields {
-    letter: Option<char>,
-    term: Option<Term>,
-    other_term: Option<Term>,
-    number: Option<usize>,
-    other_number: Option<usize>,
+    terms: [Option<Term>; 2],
+    numbers: [Option<usize>; 2],
+}
+
+// Puts a field in the first slot that is empty.
+fn fill<T: Copy>(slots: &mut [Option<T>; 2], field: T) {
+    if slots[0].is_none() {
+        slots[0] = Some(field);
+    } else {
+        slots[1] = Some(field);
+    }
 }
 
 impl Fields {
-    fn take_term(&mut self, term: Term) {
-        if self.term.is_none() {
-            self.term = Some(term);
-        } else {
-            self.other_term = Some(term);
-        }
-    }
-
-    fn take_number(&mut self, number: usize) {
-        if self.number.is_none() {
-            self.number = Some(number);
-        } else {
-            self.other_number = Some(number);
-        }
-    }
-
     fn take(&mut self, text: &str) -> anyhow::Result<()> {
-        if self.letter.is_none() {
-            self.letter = text.chars().next();
-        } else if let Some(number) = text.strip_prefix("c") {
-            self.take_term(Term::Constant(number.parse::<usize>()?));
+        if let Some(number) = text.strip_prefix("c") {
+            fill(&mut self.terms, Term::Constant(number.parse()?));
         } else if let Some(number) = text.strip_prefix("v") {
-            self.take_term(Term::Variable(number.parse::<usize>()?));
+            fill(&mut self.terms, Term::Variable(number.parse()?));
         } else {
-            self.take_number(text.parse::<usize>()?);
+            fill(&mut self.numbers, text.parse()?);
         }
         Ok(())
     }
 
     // A mark's number comes before its part; of the other forms, some have a number and no part.
-    fn place(&self) -> RawPlace {
-        let letter = self.letter.unwrap_or(' ');
-        let number = self.number.unwrap_or(0);
-        let other_part = self.other_number.unwrap_or(0);
+    fn place(&self, letter: char) -> RawPlace {
+        let [term, other_term] = self.terms.map(|term| term.unwrap_or(Term::Constant(0)));
+        let [number, other_part] = self.numbers.map(|number| number.unwrap_or(0));
         RawPlace {
             letter,
-            term: self.term.unwrap_or(Term::Constant(0)),
-            other_term: self.other_term.unwrap_or(Term::Constant(0)),
+            term,
+            other_term,
             number,
             part: if letter == 'M' { other_part } else { number },
             other_part,
@@ -92,24 +67,22 @@ impl Fields {
 
 // A place, `E,v1,0`.
 fn read_place(text: &str) -> anyhow::Result<RawPlace> {
+    let mut words = text.split(',');
+    let letter = words
+        .next()
+        .and_then(|word| word.chars().next())
+        .unwrap_or(' ');
     let mut fields = Fields {
-        letter: None,
-        term: None,
-        other_term: None,
-        number: None,
-        other_number: None,
+        terms: [None; 2],
+        numbers: [None; 2],
     };
-    for field in text.split(',') {
-        fields.take(field)?;
+    for word in words {
+        fields.take(word)?;
     }
-    Ok(fields.place())
+    Ok(fields.place(letter))
 }
 
 // The places that spaces part.
 pub fn read_places(heap: Global, text: &str) -> anyhow::Result<Vec<RawPlace>> {
-    let mut places = Vec::new(heap);
-    for word in text.split_whitespace() {
-        places.push(read_place(word)?)?;
-    }
-    Ok(places)
+    text.split_whitespace().map(read_place).try_collect(heap)
 }

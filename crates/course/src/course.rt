@@ -13,7 +13,7 @@ pub const COMPARISONS: usize = 1024;
 pub const SOURCE_PLACE: usize = 64;
 
 // Where an arrow's label comes from.
-#[derive(Clone, Copy)]
+#[derive(Clone, Copy, Debug, PartialEq, Eq)]
 pub enum Origin {
     // it has none
     Blank,
@@ -25,7 +25,7 @@ pub enum Origin {
 
 // A node, made by the rule of a place in a frame. It stands for itself, except that a hub stands
 // for the node that it was made for.
-#[derive(Clone, Copy)]
+#[derive(Clone, Copy, Debug, PartialEq, Eq)]
 pub struct Node {
     pub place: usize,
     pub frame: usize,
@@ -34,7 +34,7 @@ pub struct Node {
 }
 
 // An arrow between two nodes, made by the rule of a place in a frame.
-#[derive(Clone, Copy)]
+#[derive(Clone, Copy, Debug, PartialEq, Eq)]
 pub struct Arrow {
     pub tail: usize,
     pub head: usize,
@@ -45,7 +45,7 @@ pub struct Arrow {
 
 // One run of a recursion's body: the frame around it, the recursion's place and the arrow that
 // the body was run for.
-#[derive(Clone, Copy)]
+#[derive(Clone, Copy, Debug, PartialEq, Eq)]
 pub struct Frame {
     pub parent: usize,
     pub place: usize,
@@ -53,14 +53,14 @@ pub struct Frame {
 }
 
 // How two labels compare.
-#[derive(Clone, Copy)]
+#[derive(Clone, Copy, Debug, PartialEq, Eq)]
 pub enum Outcome {
     Same,
     Other,
 }
 
 // A comparison of the labels of two origins, made at a place in a frame.
-#[derive(Clone, Copy)]
+#[derive(Clone, Copy, Debug, PartialEq, Eq)]
 pub struct Comparison {
     pub place: usize,
     pub frame: usize,
@@ -70,7 +70,7 @@ pub struct Comparison {
 }
 
 // The four lists by name.
-#[derive(Clone, Copy)]
+#[derive(Clone, Copy, Debug, PartialEq, Eq)]
 pub enum ListName {
     Nodes,
     Arrows,
@@ -79,7 +79,7 @@ pub enum ListName {
 }
 
 // The first entry that does not fit: the place and the frame whose rule makes it, and its list.
-#[derive(Clone, Copy)]
+#[derive(Clone, Copy, Debug, PartialEq, Eq)]
 pub struct Full {
     pub place: usize,
     pub frame: usize,
@@ -87,7 +87,7 @@ pub struct Full {
 }
 
 // How many entries each list of a course has.
-#[derive(Clone, Copy)]
+#[derive(Clone, Copy, Debug, Default, PartialEq, Eq)]
 pub struct Sizes {
     pub nodes: usize,
     pub arrows: usize,

@@ -14,6 +14,7 @@ mod in_map;
 mod link;
 mod opening;
 mod outs;
+mod printed;
 mod reach;
 pub mod readings;
 pub mod run;

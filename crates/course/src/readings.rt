@@ -20,48 +20,60 @@ impl Workspace {
         }
     }
 
+    // The nodes.
+    pub fn nodes(&self) -> &[Node]
+        ensures { result.now ≡ (course_of self.now).nodes }
+    {
+        self.nodes.as_slice()
+    }
+
+    // The arrows.
+    pub fn arrows(&self) -> &[Arrow]
+        ensures { result.now ≡ (course_of self.now).arrows }
+    {
+        self.arrows.as_slice()
+    }
+
+    // The frames.
+    pub fn frames(&self) -> &[Frame]
+        ensures { result.now ≡ (course_of self.now).frames }
+    {
+        self.frames.as_slice()
+    }
+
+    // The comparisons.
+    pub fn comparisons(&self) -> &[Comparison]
+        ensures { result.now ≡ (course_of self.now).comparisons }
+    {
+        self.comparisons.as_slice()
+    }
+
     // A node by its number.
     pub fn node(&self, number: usize) -> Option<Node>
         ensures { result ≡ slice_get (course_of self.now).nodes number }
     {
-        if number < self.nodes.len() {
-            Some(self.nodes[number])
-        } else {
-            None
-        }
+        self.nodes.get(number).copied()
     }
 
     // An arrow by its number.
     pub fn arrow(&self, number: usize) -> Option<Arrow>
         ensures { result ≡ slice_get (course_of self.now).arrows number }
     {
-        if number < self.arrows.len() {
-            Some(self.arrows[number])
-        } else {
-            None
-        }
+        self.arrows.get(number).copied()
     }
 
     // A frame by its number.
     pub fn frame(&self, number: usize) -> Option<Frame>
         ensures { result ≡ slice_get (course_of self.now).frames number }
     {
-        if number < self.frames.len() {
-            Some(self.frames[number])
-        } else {
-            None
-        }
+        self.frames.get(number).copied()
     }
 
     // A comparison by its number.
     pub fn comparison(&self, number: usize) -> Option<Comparison>
         ensures { result ≡ slice_get (course_of self.now).comparisons number }
     {
-        if number < self.comparisons.len() {
-            Some(self.comparisons[number])
-        } else {
-            None
-        }
+        self.comparisons.get(number).copied()
     }
 }
 

@@ -1,5 +1,6 @@
 // A row of the view.
 use course::course::Origin;
+use std::fmt;
 
 // A shown node with an arrow that leads on from it: the node, the arrow's head, and the arrow's
 // origin, place and frame.
@@ -10,6 +11,16 @@ pub struct Row {
     pub origin: Origin,
     pub place: usize,
     pub frame: usize,
+}
+
+impl fmt::Display for Row {
+    fn fmt<W: fmt::Write>(&self, f: &mut fmt::Formatter<W>) -> fmt::Result {
+        write!(
+            f,
+            "node={} head={} origin={} place={} frame={}",
+            self.node, self.head, self.origin, self.place, self.frame
+        )
+    }
 }
 
 // How many rows a view has room for.

@@ -69,6 +69,13 @@ impl Rows {
         answer
     }
 
+    // The rows.
+    pub fn as_slice(&self) -> &[Row]
+        ensures { result.now ≡ self.now.rows.items }
+    {
+        self.rows.as_slice()
+    }
+
     // How many rows there are.
     pub fn count(&self) -> usize
         ensures value { result ≡ length self.now.rows.items }
@@ -81,11 +88,7 @@ impl Rows {
     pub fn get(&self, index: usize) -> Option<Row>
         ensures { result ≡ slice_get self.now.rows.items index }
     {
-        if index < self.rows.len() {
-            Some(self.rows[index])
-        } else {
-            None
-        }
+        self.rows.get(index).copied()
     }
 }
 

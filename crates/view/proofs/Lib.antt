@@ -1,4 +1,3 @@
-pub mod Copying
 pub mod Examples
 pub mod Keeping
 pub mod Listings

@@ -65,22 +65,6 @@ module _ {M : Type 0} (ms ns : List M) where
 pub place_within : {L M : Type 0} (meaning : L → M) (ls : List L) (k : ℕ) (m : M) → slice_get (map meaning ls) k ≡ Some m → k < length ls
 place_within meaning ls k m e = let h = nth_within (map meaning ls) k m e in omega (arith, length-map ls meaning)
 
--- one more label is numbered
-module _ {L M : Type 0} (meaning : L → M) (labels constants ls : List L) (cs : List ℕ) (n : ℕ) (x : L) (c : ℕ) where
-  pub numbered_more : n < length ls → n < length cs → x ≡ get_or ls n x →
-      Numbered (map meaning labels) (map meaning constants) (meaning x) c →
-      NumberedBelow meaning labels constants ls cs n → NumberedBelow meaning labels constants ls (set cs n c) (n + 1)
-  numbered_more there room is here before k y lt e =
-      elim (cases_eq k n) [
-        | inl p ↦ subst (λ (i : ℕ). Numbered (map meaning labels) (map meaning constants) (meaning y) (get_or (set cs n c) i 0)) (sym p)
-            (rw get_or-set_same (subst (λ (z : L). Numbered (map meaning labels) (map meaning constants) (meaning z) c)
-            (some_back (sym (slice_get_read ls (length ls) n x refl there is) ∙ subst (λ (i : ℕ). slice_get ls i ≡ Some y) p e)) here))
-        | inr o ↦ let ne : k ≢ n = o in rw get_or-set_other (before k y (below o) e)
-      ]
-    where
-      below : (k ≡ n → ⊥) → k < n
-      below o = elim (cases_order k n) [ inl q ↦ absurd (o q) | inr r ↦ elim r [ inl h ↦ h | inr h ↦ absurd (omega (arith, lt, h)) ] ]
-
 -- numbers of all labels tell them apart
 module _ {L M : Type 0} (meaning : L → M) (labels constants : List L) (cs : Classes) where
   pub tells : (s n : ℕ) → AllNumbered meaning labels constants labels cs.arrows → AllNumbered meaning labels constants constants cs.constants → Tells s n meaning labels constants cs

@@ -3,9 +3,10 @@ ghost use Rattle.std.specs.Prelude.{◌≡◌};
 ghost use Rattle.view.specs.Faults.{told};
 
 use course::course::Full;
+use std::fmt;
 
 // The first check that failed.
-#[derive(Clone, Copy)]
+#[derive(Clone, Copy, Debug, PartialEq, Eq)]
 pub enum ViewFault {
     // fewer labels than the source has arrows, or than the expression has constants
     ShortTable,
@@ -32,9 +33,19 @@ impl ViewFault {
         ensures { result ≡ (told self).1 }
     {
         match self {
-            ViewFault::ShortTable => None,
             ViewFault::Full(full) => Some(full),
-            ViewFault::TooManyRows => None,
+            ViewFault::ShortTable | ViewFault::TooManyRows => None,
+        }
+    }
+}
+
+// The refusal's number, and the entry that it names.
+impl fmt::Display for ViewFault {
+    fn fmt<W: fmt::Write>(&self, f: &mut fmt::Formatter<W>) -> fmt::Result {
+        match self {
+            ViewFault::ShortTable => write!(f, "10"),
+            ViewFault::Full(full) => write!(f, "18 {full}"),
+            ViewFault::TooManyRows => write!(f, "19"),
         }
     }
 }

@@ -1,7 +1,6 @@
 // Views: what an expression shows of a labelled source.
 #![tactic(auto)]
 
-mod arrow_table;
 pub mod cases;
 mod class_table;
 pub mod fault;

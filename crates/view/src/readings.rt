@@ -1,14 +1,23 @@
 // What a view tells.
-ghost use Rattle.std.specs.Prelude.{◌≡◌, length};
+ghost use Rattle.std.specs.Prelude.{◌≡◌, length, MatchOption};
 ghost use Rattle.std.specs.List.{slice_get};
-ghost use Rattle.course.specs.View.{Counts};
+ghost use Rattle.course.specs.Opening.{no_course};
+ghost use Rattle.course.specs.View.{course_of, Counts};
 ghost use Rattle.view.specs.View.{seen, course_in, rows_in, node_in};
 
 use crate::view::View;
 use course::course::{Arrow, Comparison, Frame, Node, Sizes};
+use course::workspace::Workspace;
 use rows::row::Row;
 
 impl View {
+    // The workspace of the course that is shown; none where nothing is.
+    fn course(&self) -> Option<&Workspace>
+        ensures { MatchOption result (course_in (seen self.now) ≡ no_course) (λ w. course_in (seen self.now) ≡ course_of w.now) }
+    {
+        self.shown.map(|_| &self.workspace)
+    }
+
     // The node that is shown first, the whole's node for marker 0.
     pub fn first_node(&self) -> Option<usize>
         ensures { result ≡ node_in (seen self.now) }
@@ -21,74 +30,83 @@ impl View {
     pub fn sizes(&self) -> Sizes
         ensures { Counts (course_in (seen self.now)) result }
     {
-        match self.shown {
-            Some(_) => self.workspace.sizes(),
-            None => Sizes {
-                nodes: 0,
-                arrows: 0,
-                frames: 0,
-                comparisons: 0,
-            },
-        }
+        self.course().map_or(Sizes::default(), Workspace::sizes)
+    }
+
+    // The nodes of the course.
+    pub fn nodes(&self) -> &[Node]
+        ensures { result.now ≡ (course_in (seen self.now)).nodes }
+    {
+        self.course().map_or(&[], Workspace::nodes)
+    }
+
+    // The arrows of the course.
+    pub fn arrows(&self) -> &[Arrow]
+        ensures { result.now ≡ (course_in (seen self.now)).arrows }
+    {
+        self.course().map_or(&[], Workspace::arrows)
+    }
+
+    // The frames of the course.
+    pub fn frames(&self) -> &[Frame]
+        ensures { result.now ≡ (course_in (seen self.now)).frames }
+    {
+        self.course().map_or(&[], Workspace::frames)
+    }
+
+    // The comparisons of the course.
+    pub fn comparisons(&self) -> &[Comparison]
+        ensures { result.now ≡ (course_in (seen self.now)).comparisons }
+    {
+        self.course().map_or(&[], Workspace::comparisons)
+    }
+
+    // The rows.
+    pub fn rows(&self) -> &[Row]
+        ensures { result.now ≡ rows_in (seen self.now) }
+    {
+        self.shown.map_or(&[], |_| self.rows.as_slice())
     }
 
     // A node of the course by its number.
     pub fn node(&self, number: usize) -> Option<Node>
         ensures { result ≡ slice_get (course_in (seen self.now)).nodes number }
     {
-        match self.shown {
-            Some(_) => self.workspace.node(number),
-            None => None,
-        }
+        self.nodes().get(number).copied()
     }
 
     // An arrow of the course by its number.
     pub fn arrow(&self, number: usize) -> Option<Arrow>
         ensures { result ≡ slice_get (course_in (seen self.now)).arrows number }
     {
-        match self.shown {
-            Some(_) => self.workspace.arrow(number),
-            None => None,
-        }
+        self.arrows().get(number).copied()
     }
 
     // A frame of the course by its number.
     pub fn frame(&self, number: usize) -> Option<Frame>
         ensures { result ≡ slice_get (course_in (seen self.now)).frames number }
     {
-        match self.shown {
-            Some(_) => self.workspace.frame(number),
-            None => None,
-        }
+        self.frames().get(number).copied()
     }
 
     // A comparison of the course by its number.
     pub fn comparison(&self, number: usize) -> Option<Comparison>
         ensures { result ≡ slice_get (course_in (seen self.now)).comparisons number }
     {
-        match self.shown {
-            Some(_) => self.workspace.comparison(number),
-            None => None,
-        }
+        self.comparisons().get(number).copied()
     }
 
     // How many rows there are.
     pub fn row_count(&self) -> usize
         ensures { result ≡ length (rows_in (seen self.now)) }
     {
-        match self.shown {
-            Some(_) => self.rows.count(),
-            None => 0,
-        }
+        self.rows().len()
     }
 
     // A row by its number.
     pub fn row(&self, number: usize) -> Option<Row>
         ensures { result ≡ slice_get (rows_in (seen self.now)) number }
     {
-        match self.shown {
-            Some(_) => self.rows.get(number),
-            None => None,
-        }
+        self.rows().get(number).copied()
     }
 }

@@ -8,8 +8,7 @@ ghost use Rattle.course.specs.View.{course_of};
 ghost use Rattle.view.specs.Laws.{RunLaws, LabelLaws};
 ghost use Rattle.view.specs.View.{seen, listed, pictured, showing, Answered};
 
-use crate::arrow_table::arrow_table;
-use crate::class_table::class_table;
+use crate::class_table::LabelTables;
 use crate::fault::ViewFault;
 use course::classes::Classes;
 use course::source::Source;
@@ -57,9 +56,9 @@ impl View {
         requires { node < length (course_of self.old.workspace).nodes }
         ensures { Answered (listed node (course_of self.old.workspace)) (seen self.old) (seen self.new) result }
     {
-        let arrows = arrow_table(&self.workspace);
-        let sizes = self.workspace.sizes();
-        match self.rows.list(&arrows[..sizes.arrows], sizes.nodes, node) {
+        let nodes = self.workspace.nodes();
+        let arrows = self.workspace.arrows();
+        match self.rows.list(arrows, nodes.len(), node) {
             Ok(()) => {
                 self.shown = Some(node);
                 Ok(())
@@ -102,7 +101,10 @@ impl View {
         if labels.len() < arrows || constants.len() < fixed {
             return Err(ViewFault::ShortTable);
         }
-        let classes = class_table(&labels[..arrows], &constants[..fixed]);
-        self.show_run(source, expression, &classes)
+        let tables = LabelTables {
+            labels: &labels[..arrows],
+            constants: &constants[..fixed],
+        };
+        self.show_run(source, expression, &tables.classes())
     }
 }

@@ -22,8 +22,8 @@ returns-then-labels-arrows g c =
       label_laws = label_laws g.L.Label.alike g.L.Label.meaning g.met.L.Label.exact;
     }
 
-pub class_table-classes-requires : goal.class_table-classes-requires
-class_table-classes-requires g c =
+pub invariant_of-tables : goal.invariant_of-tables
+invariant_of-tables g c =
     let source = c.args.source.now in
     record {
       few_labels = omega (arith, length-take-le c.arrows-arrows.result c.args.labels.now c.if-labels-arrows.false, c.arrows-arrows.ensures, arrow_count source, source.few_arrows);
@@ -35,8 +35,8 @@ returns g c =
     let x = c.args.expression.now in
     record {
       answer = shown_by_classes g.L.Label.alike g.L.Label.meaning g.met.L.Label.exact c.args.source.now x.constants c.arrows-arrows.result c.constants-fixed.result (tree_of x (whole_of x))
-          c.args.labels.now c.args.constants.now c.class_table-classes.result (seen c.args.self.now) (seen c.show_run.new.self) c.show_run.result
-          x.rules c.arrows-arrows.ensures c.constants-fixed.ensures.value c.if-labels-arrows.false c.if-constants-fixed.false c.class_table-classes.ensures c.show_run.ensures;
+          c.args.labels.now c.args.constants.now c.classes.result (seen c.args.self.now) (seen c.show_run.new.self) c.show_run.result
+          x.rules c.arrows-arrows.ensures c.constants-fixed.ensures.value c.if-labels-arrows.false c.if-constants-fixed.false c.classes.ensures c.show_run.ensures;
       run_laws = run_laws;
       label_laws = label_laws g.L.Label.alike g.L.Label.meaning g.met.L.Label.exact;
     }
