@@ -1,4 +1,7 @@
 // The entries of a course's four lists.
+ghost use Rattle.std.specs.Prelude.{◌≡◌};
+
+use std::fmt;
 
 // How many entries each list has room for.
 pub const NODES: usize = 1024;
@@ -13,7 +16,7 @@ pub const COMPARISONS: usize = 1024;
 pub const SOURCE_PLACE: usize = 64;
 
 // Where an arrow's label comes from.
-#[derive(Clone, Copy)]
+#[derive(Clone, Copy, Debug, PartialEq, Eq)]
 pub enum Origin {
     // it has none
     Blank,
@@ -23,9 +26,30 @@ pub enum Origin {
     Constant(usize),
 }
 
+impl Origin {
+    ghost use Rattle.course.specs.Course.{is_blank_origin};
+
+    // Whether there is no label.
+    pub fn is_blank(self) -> bool
+        ensures { result ≡ is_blank_origin self }
+    {
+        matches!(self, Origin::Blank)
+    }
+}
+
+impl fmt::Display for Origin {
+    fn fmt<W: fmt::Write>(&self, f: &mut fmt::Formatter<W>) -> fmt::Result {
+        match *self {
+            Origin::Blank => f.write_str("-"),
+            Origin::Source(arrow) => write!(f, "a{}", arrow),
+            Origin::Constant(constant) => write!(f, "c{}", constant),
+        }
+    }
+}
+
 // A node, made by the rule of a place in a frame. It stands for itself, except that a hub stands
 // for the node that it was made for.
-#[derive(Clone, Copy)]
+#[derive(Clone, Copy, Debug, PartialEq, Eq)]
 pub struct Node {
     pub place: usize,
     pub frame: usize,
@@ -34,7 +58,7 @@ pub struct Node {
 }
 
 // An arrow between two nodes, made by the rule of a place in a frame.
-#[derive(Clone, Copy)]
+#[derive(Clone, Copy, Debug, PartialEq, Eq)]
 pub struct Arrow {
     pub tail: usize,
     pub head: usize,
@@ -45,7 +69,7 @@ pub struct Arrow {
 
 // One run of a recursion's body: the frame around it, the recursion's place and the arrow that
 // the body was run for.
-#[derive(Clone, Copy)]
+#[derive(Clone, Copy, Debug, PartialEq, Eq)]
 pub struct Frame {
     pub parent: usize,
     pub place: usize,
@@ -53,14 +77,14 @@ pub struct Frame {
 }
 
 // How two labels compare.
-#[derive(Clone, Copy)]
+#[derive(Clone, Copy, Debug, PartialEq, Eq)]
 pub enum Outcome {
     Same,
     Other,
 }
 
 // A comparison of the labels of two origins, made at a place in a frame.
-#[derive(Clone, Copy)]
+#[derive(Clone, Copy, Debug, PartialEq, Eq)]
 pub struct Comparison {
     pub place: usize,
     pub frame: usize,
@@ -70,24 +94,47 @@ pub struct Comparison {
 }
 
 // The four lists by name.
-#[derive(Clone, Copy)]
+#[derive(Clone, Copy, Debug, PartialEq, Eq)]
 pub enum ListName {
-    Nodes,
-    Arrows,
-    Frames,
-    Comparisons,
+    Nodes = 1,
+    Arrows = 2,
+    Frames = 3,
+    Comparisons = 4,
+}
+
+impl ListName {
+    ghost use Rattle.course.specs.Course.{list_number};
+
+    // The number of a list: nodes 1, arrows 2, frames 3, comparisons 4.
+    pub fn number(&self) -> usize
+        ensures { result ≡ list_number self.now }
+    {
+        *self as usize
+    }
 }
 
 // The first entry that does not fit: the place and the frame whose rule makes it, and its list.
-#[derive(Clone, Copy)]
+#[derive(Clone, Copy, Debug, PartialEq, Eq)]
 pub struct Full {
     pub place: usize,
     pub frame: usize,
     pub list: ListName,
 }
 
+impl fmt::Display for Full {
+    fn fmt<W: fmt::Write>(&self, f: &mut fmt::Formatter<W>) -> fmt::Result {
+        write!(
+            f,
+            "place={} frame={} list={}",
+            self.place,
+            self.frame,
+            self.list.number()
+        )
+    }
+}
+
 // How many entries each list of a course has.
-#[derive(Clone, Copy)]
+#[derive(Clone, Copy, Debug, PartialEq, Eq)]
 pub struct Sizes {
     pub nodes: usize,
     pub arrows: usize,

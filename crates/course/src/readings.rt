@@ -1,10 +1,9 @@
 // What a workspace tells of the course that it holds.
 ghost use Rattle.std.specs.Prelude.{◌≡◌, length};
 ghost use Rattle.std.specs.List.{slice_get};
-ghost use Rattle.course.specs.Course.{list_number};
 ghost use Rattle.course.specs.View.{course_of, Counts};
 
-use crate::course::{Arrow, Comparison, Frame, ListName, Node, Sizes};
+use crate::course::{Arrow, Comparison, Frame, Node, Sizes};
 use crate::workspace::Workspace;
 
 impl Workspace {
@@ -20,61 +19,38 @@ impl Workspace {
         }
     }
 
+    // The arrows, in order.
+    pub fn arrows(&self) -> &[Arrow]
+        ensures { result.now ≡ (course_of self.now).arrows }
+    {
+        &self.arrows
+    }
+
     // A node by its number.
     pub fn node(&self, number: usize) -> Option<Node>
         ensures { result ≡ slice_get (course_of self.now).nodes number }
     {
-        if number < self.nodes.len() {
-            Some(self.nodes[number])
-        } else {
-            None
-        }
+        self.nodes.get(number).copied()
     }
 
     // An arrow by its number.
     pub fn arrow(&self, number: usize) -> Option<Arrow>
         ensures { result ≡ slice_get (course_of self.now).arrows number }
     {
-        if number < self.arrows.len() {
-            Some(self.arrows[number])
-        } else {
-            None
-        }
+        self.arrows.get(number).copied()
     }
 
     // A frame by its number.
     pub fn frame(&self, number: usize) -> Option<Frame>
         ensures { result ≡ slice_get (course_of self.now).frames number }
     {
-        if number < self.frames.len() {
-            Some(self.frames[number])
-        } else {
-            None
-        }
+        self.frames.get(number).copied()
     }
 
     // A comparison by its number.
     pub fn comparison(&self, number: usize) -> Option<Comparison>
         ensures { result ≡ slice_get (course_of self.now).comparisons number }
     {
-        if number < self.comparisons.len() {
-            Some(self.comparisons[number])
-        } else {
-            None
-        }
-    }
-}
-
-impl ListName {
-    // The number of a list: nodes 1, arrows 2, frames 3, comparisons 4.
-    pub fn number(&self) -> usize
-        ensures { result ≡ list_number self.now }
-    {
-        match *self {
-            ListName::Nodes => 1,
-            ListName::Arrows => 2,
-            ListName::Frames => 3,
-            ListName::Comparisons => 4,
-        }
+        self.comparisons.get(number).copied()
     }
 }

@@ -2,12 +2,15 @@
 ghost use Rattle.std.specs.Prelude.{◌≡◌, ◌<◌, ◌≤◌, true, length, take};
 ghost use Rattle.course.specs.Ends.{inside};
 
+use std::fmt;
+
 pub const SOURCE_NODES: usize = 128;
 
 pub const SOURCE_ARROWS: usize = 256;
 
 // Nodes and arrows are numbered from 0, and node 0 is the root. An arrow is the pair of its tail
 // and its head.
+// Kept as an array with a count: making a source takes no heap, so it cannot fail for memory.
 #[derive(Drop)]
 pub struct Source {
     pub(crate) nodes: usize,
@@ -21,10 +24,19 @@ pub struct Source {
 }
 
 // Why a source is refused.
-#[derive(Clone, Copy)]
+#[derive(Clone, Copy, Debug, PartialEq, Eq)]
 pub enum SourceFault {
     // no node, or more than 128, or more than 256 arrows
     Count,
     // the lowest arrow with an end that is no node
     End(usize),
+}
+
+impl fmt::Display for SourceFault {
+    fn fmt<W: fmt::Write>(&self, f: &mut fmt::Formatter<W>) -> fmt::Result {
+        match *self {
+            SourceFault::Count => f.write_str("16"),
+            SourceFault::End(arrow) => write!(f, "17 arrow={}", arrow),
+        }
+    }
 }
