@@ -1,7 +1,10 @@
 -- Arrows as pairs, one more at a time: whether their ends are nodes, and the lowest whose ends are not. Assumes nothing.
-use Rattle.std.proofs.Common.{◌≡◌, ℕ, zero, suc, ◌+◌, ◌<◌, ◌≤◌, true, false, cond, ◌&&◌, ltb, leb, List, [], ◌∷◌, ◌++◌, length, get_or, take, drop, Some, None, refl, ap, ◌∙◌, add-one, arith}
+use Rattle.std.proofs.Common.{◌≡◌, ℕ, zero, suc, ◌+◌, ◌<◌, ◌≤◌, Bool, true, false, cond, not, ◌&&◌, ltb, leb, List, [], ◌∷◌, ◌++◌, length, get_or, take, drop, Some, None, Option, sym, refl, ap, ◌∙◌, add-one, arith}
 use Rattle.std.proofs.lemmas.List.{drop_more, drop_all, take_more}
 use Rattle.std.proofs.lemmas.Bool.{and_parts, ltb-true, leb-true}
+use Rattle.std.specs.List.{position, position_from}
+use Rattle.std.proofs.lemmas.Iterator.Adapters.{position_from-zero}
+use Rattle.course.specs.declared.source.SourceFault.{SourceFault}
 use Rattle.course.specs.declared.source.SourceFault.TheVariants.{Count, End}
 use Rattle.course.specs.Ends.{joins, inside}
 use Rattle.course.specs.Sources.{outside, sized, fault}
@@ -22,6 +25,33 @@ pub inside_at : (n : ℕ) (xs : List (ℕ × ℕ)) (k : ℕ) → k < length xs �
 inside_at n [] k l h = absurd (omega arith)
 inside_at n (x ∷ xs) zero l h = (and_parts (joins n x) (inside n xs) h).0
 inside_at n (x ∷ xs) (suc k) l h = inside_at n xs k (omega arith) (and_parts (joins n x) (inside n xs) h).1
+
+-- the lowest arrow with an end that is no node, by its position
+abbrev pub end_of : Option ℕ → Option SourceFault
+end_of None = None
+end_of (Some k) = Some (End k)
+
+end_here : (i : ℕ) (b : Bool) (a : Option SourceFault) (o : Option ℕ) → a ≡ end_of o → cond b a (Some (End i)) ≡ end_of (cond (not b) (Some i) o)
+end_here i true a o e = e
+end_here i false a o e = refl
+
+outside_from : (n i : ℕ) (xs : List (ℕ × ℕ)) → outside n i xs ≡ end_of (position_from (λ a. not (joins n a)) i xs)
+outside_from n i [] = refl
+outside_from n i (x ∷ xs) = end_here i (joins n x) (outside n (suc i) xs) (position_from (λ a. not (joins n a)) (i + 1) xs) (rw add-one (outside_from n (suc i) xs))
+
+pub outside_position : (n : ℕ) (xs : List (ℕ × ℕ)) → outside n 0 xs ≡ end_of (position (λ a. not (joins n a)) xs)
+outside_position n xs = outside_from n 0 xs ∙ ap end_of (sym (position_from-zero (λ (a : ℕ × ℕ). not (joins n a)) xs))
+
+-- where no end is outside, all are inside
+none_here : (i : ℕ) (b : Bool) (a : Option SourceFault) → cond b a (Some (End i)) ≡ None → (b ≡ true) × (a ≡ None)
+none_here i true a e = (refl, e)
+none_here i false a e = absurd (let z : ◌≡◌ {A = ℕ} 0 1 = cc in omega arith)
+
+pub inside_all : (n i : ℕ) (xs : List (ℕ × ℕ)) → outside n i xs ≡ None → inside n xs ≡ true
+inside_all n i [] e = refl
+inside_all n i (x ∷ xs) e =
+    let k = none_here i (joins n x) (outside n (suc i) xs) e in
+    rw k.0 (inside_all n (suc i) xs k.1)
 
 pub outside_more : (n : ℕ) (xs : List (ℕ × ℕ)) (k : ℕ) → k < length xs → joins n (get_or xs k (0, 0)) ≡ true → outside n k (drop k xs) ≡ outside n (k + 1) (drop (k + 1) xs)
 outside_more n xs k l e = rw (drop_more xs k (0, 0) l, e, add-one) refl

@@ -4,7 +4,7 @@ use Rattle.std.proofs.lemmas.Bool.{both_ways, cases_lt}
 use Rattle.std.proofs.lemmas.List.{get_or_past}
 use Rattle.course.specs.declared.course.Node.{Node}
 use Rattle.course.specs.declared.course.ListName.TheVariants.{Nodes}
-use Rattle.course.specs.Course.{Course, Run, done, full, Step, onward, give, enter_node, each_at}
+use Rattle.course.specs.Course.{Course, Run, done, full, Step, onward, give, enter_node, new_node, each_at}
 use Rattle.course.specs.Reach.{trues}
 use Rattle.course.specs.Hubs.{hub, hubs}
 use Rattle.course.specs.View.{Within}
@@ -57,6 +57,10 @@ hub_adds : (p f v m : ℕ) (b : Bool) → Adds (cond b 1 0) (hub_step p f v m b)
 unfolding enter_node
 hub_adds p f v m true c d q = node_adds (record { place = p; frame = f; marker = m; stands = v }) c d (ltb (length c.nodes) 1024) q
 hub_adds p f v m false c d q = let e : c ≡ d = cc in omega (arith, ap (λ (x : Course). length x.nodes) e)
+
+-- a node that stands for itself
+pub plain_adds : (p f m : ℕ) (c d : Course) (n : ℕ) → new_node p f m c ≡ done n d → length d.nodes ≡ length c.nodes + 1
+plain_adds p f m c d n q = hub_adds p f (length c.nodes) m true c d (ap (λ (r : Run ℕ). onward r (λ x. give none)) q)
 
 of_adds : (p f : ℕ) (ms : List Bool) (v : ℕ) (b : Bool) → Adds (cond b (trues ms) 0) (hubs_step p f ms v b)
 of_adds p f ms v true c d q = omega (arith, each_adds 1 (hub_step p f v) (hub_adds p f v) 0 ms c d q)

@@ -1,6 +1,6 @@
 -- In-maps: their nodes are there, and loops that fill one or go through part of a list. Assumes nothing.
 use Rattle.std.proofs.Common.{◌≡◌, ℕ, zero, suc, ◌+◌, ◌-◌, ◌<◌, ◌≤◌, Bool, true, false, List, [], ◌∷◌, ◌++◌, length, get_or, take, drop, set, replicate, IsErrAnd, Ok, Err, Result, sym, refl, ap, ◌∙◌, append_assoc, append-nil, add-one, arith}
-use Rattle.std.proofs.lemmas.List.{drop_more, drop_all, take_more_set, take_all, take_at, drop_at, drop-drop, length-take-le}
+use Rattle.std.proofs.lemmas.List.{drop_more, drop_all, take_more, take_more_set, take_all, take_at, drop_at, drop-drop, length-take-le}
 use Rattle.std.specs.List.{remove}
 use Rattle.course.specs.declared.workspace.Workspace.{Workspace}
 use Rattle.course.specs.declared.course.Full.{Full}
@@ -55,6 +55,14 @@ pub nodes_more : (step : ℕ → Step ℕ) (ms : List Bool) (i : ℕ) (b : Bool)
 unfolding nodes_for
 nodes_more step ms i b into v c d h e l q =
     rw (drop_more ms i false h, ← e, q, add-one) (onward_maps (nodes_for step (suc i) (drop (suc i) ms) d) v (take i into) (take (suc i) (set into i v)) (rw (← add-one) (take_more_set into i v l)))
+
+-- past a marker outside the set
+pub nodes_past : (step : ℕ → Step ℕ) (ms : List Bool) (i : ℕ) (into : List ℕ) (c : Course) → i < length ms → get_or ms i false ≡ false → i < length into → get_or into i 0 ≡ 0
+    → onward (nodes_for step i (drop i ms) c) (λ vs. give (take i into ++ vs)) ≡ onward (nodes_for step (i + 1) (drop (i + 1) ms) c) (λ vs. give (take (i + 1) into ++ vs))
+unfolding nodes_for
+nodes_past step ms i into c h e l z =
+    rw (drop_more ms i false h, e, add-one)
+    (onward_maps (nodes_for step (suc i) (drop (suc i) ms) c) 0 (take i into) (take (suc i) into) (rw (← add-one) (take_more into i 0 l ∙ ap (λ (v : ℕ). take i into ++ v ∷ []) z)))
 
 pub nodes_none : (step : ℕ → Step ℕ) (ms : List Bool) (i : ℕ) (into : List ℕ) (c : Course) → length ms ≤ i → length into ≤ i
     → onward (nodes_for step i (drop i ms) c) (λ vs. give (take i into ++ vs)) ≡ done into c

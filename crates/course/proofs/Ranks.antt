@@ -1,8 +1,14 @@
 -- How many flags are set before each. Assumes nothing.
-use Rattle.std.proofs.Common.{◌≡◌, ℕ, ◌+◌, ◌<◌, ◌≤◌, Bool, false, cond, List, [], ◌∷◌, ◌++◌, length, get_or, take, sym, refl, ap, ◌∙◌, add-zero, add_assoc, zero-add, arith, length-take}
+use Rattle.std.proofs.Common.{◌≡◌, ℕ, ◌+◌, ◌<◌, ◌≤◌, Bool, true, false, cond, List, [], ◌∷◌, ◌++◌, length, get_or, take, sym, refl, ap, ◌∙◌, add-zero, add_assoc, zero-add, arith, length-take}
+use Rattle.std.specs.Int.{from_bool}
 use Rattle.std.proofs.lemmas.List.{take_more}
 use Rattle.course.specs.Reach.{trues}
 use Rattle.course.proofs.Walks.{trues_within}
+
+-- a flag as a number
+pub counted : (b : Bool) → from_bool b ≡ cond b 1 0
+counted true = refl
+counted false = refl
 
 pub trues_push : (m : List Bool) (b : Bool) → trues (m ++ b ∷ []) ≡ trues m + cond b 1 0
 unfolding trues

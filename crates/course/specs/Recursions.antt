@@ -32,8 +32,8 @@ abbrev pub hubs_at : Hubs → ℕ → List ℕ
 hubs_at h v = hubs (members h) h.set h.first v
 
 pub record Numbers (h : Hubs) (p f : ℕ) (ms : List Bool) (n : ℕ) (s : List Bool) : Type 0 where
-  pub place : h.place ≡ p
-  pub frame : h.frame ≡ f
+  pub place : h.rule.place ≡ p
+  pub frame : h.rule.frame ≡ f
   pub set : h.set ≡ ms
   pub first : h.first ≡ n
   pub nodes : members h ≡ s
@@ -48,10 +48,10 @@ pub record Crosses (h : Hubs) (a : Arrow) : Type 0 where
 
 abbrev pub body_of : Compare → Tree → Environment → Hubs → ℕ → Arrow → Step (Unit {0})
 body_of cmp b env h k a =
-    run_body h.place h.frame h.set (hubs_at h a.tail) (hubs_at h a.head) (eval cmp b) (deeper env a.origin a.head) k
+    run_body h.rule.place h.rule.frame h.set (hubs_at h a.tail) (hubs_at h a.head) (eval cmp b) (deeper env a.origin a.head) k
 
 abbrev pub turn_of : Compare → Tree → Environment → Hubs → ℕ → Arrow → Step (Unit {0})
-turn_of cmp b env h = turn h.place h.frame h.set (members h) h.first (eval cmp b) env
+turn_of cmp b env h = turn h.rule.place h.rule.frame h.set (members h) h.first (eval cmp b) env
 
 pub record Bodies (cmp : Compare) (b : Tree) (env : Environment) (h : Hubs) (k : ℕ) (a : Arrow) (w v : Workspace) (r : Result (Unit {0}) Full) : Type 0 where
   pub run : Goes (body_of cmp b env h k a (course_of w)) w v r

@@ -1,4 +1,5 @@
 // The entries of a course's four lists.
+ghost use Rattle.std.specs.Prelude.{◌≡◌};
 
 // How many entries each list has room for.
 pub const NODES: usize = 1024;
@@ -21,6 +22,17 @@ pub enum Origin {
     Source(usize),
     // a constant of the expression
     Constant(usize),
+}
+
+impl Origin {
+    ghost use Rattle.course.specs.Course.{is_blank_origin};
+
+    // Whether there is no label.
+    pub fn is_blank(self) -> bool
+        ensures { result ≡ is_blank_origin self }
+    {
+        matches!(self, Origin::Blank)
+    }
 }
 
 // A node, made by the rule of a place in a frame. It stands for itself, except that a hub stands
@@ -72,10 +84,21 @@ pub struct Comparison {
 // The four lists by name.
 #[derive(Clone, Copy, Debug, PartialEq, Eq)]
 pub enum ListName {
-    Nodes,
-    Arrows,
-    Frames,
-    Comparisons,
+    Nodes = 1,
+    Arrows = 2,
+    Frames = 3,
+    Comparisons = 4,
+}
+
+impl ListName {
+    ghost use Rattle.course.specs.Course.{list_number};
+
+    // The number of a list: nodes 1, arrows 2, frames 3, comparisons 4.
+    pub fn number(&self) -> usize
+        ensures { result ≡ list_number self.now }
+    {
+        *self as usize
+    }
 }
 
 // The first entry that does not fit: the place and the frame whose rule makes it, and its list.

@@ -11,14 +11,16 @@ pub struct Extent {
     pub outs: usize,
 }
 
-pub(crate) fn measure(work: &Workspace) -> Extent
-    ensures nodes { result.nodes ≡ vec_len work.now.nodes }
-    ensures arrows { result.arrows ≡ vec_len work.now.arrows }
-    ensures outs { result.outs ≡ vec_len work.now.outs }
-{
-    Extent {
-        nodes: work.nodes.len(),
-        arrows: work.arrows.len(),
-        outs: work.outs.len(),
+impl Workspace {
+    pub(crate) fn extent(&self) -> Extent
+        ensures nodes { result.nodes ≡ vec_len self.now.nodes }
+        ensures arrows { result.arrows ≡ vec_len self.now.arrows }
+        ensures outs { result.outs ≡ vec_len self.now.outs }
+    {
+        Extent {
+            nodes: self.nodes.len(),
+            arrows: self.arrows.len(),
+            outs: self.outs.len(),
+        }
     }
 }

@@ -2,13 +2,15 @@
 ghost use Rattle.std.specs.Prelude.{◌≡◌, ℕ, ◌<◌, ◌≤◌, length, take, slice_index};
 ghost use Rattle.course.specs.Reach.{trues};
 
+use crate::rule::Rule;
+
 // The hubs of the marked nodes for the markers of a set, numbered from `first` on: for each node
-// its rank among the marked ones, for each marker its rank in the set. The recursion stands at the
-// place and is evaluated in the frame.
+// its rank among the marked ones, for each marker its rank in the set. They are made by the rule of
+// the recursion.
+// Kept as arrays side by side: a walk fills the marks, and the set is compared as one array.
 #[derive(Drop)]
 pub struct Hubs {
-    pub(crate) place: usize,
-    pub(crate) frame: usize,
+    pub(crate) rule: Rule,
     pub(crate) set: [bool; 8],
     pub(crate) first: usize,
     pub(crate) marks: [bool; 1024],
@@ -21,4 +23,31 @@ pub struct Hubs {
     ghost wide: { width ≡ trues set },
     ghost ranked: { (v : ℕ) → v < 1024 → slice_index ranks v ≡ trues (take v marks) },
     ghost placed: { (m : ℕ) → m < 8 → slice_index markers m ≡ trues (take m set) },
+}
+
+impl Hubs {
+    ghost use Rattle.course.specs.Hubs.{hub as hub_of};
+    ghost use Rattle.course.specs.Recursions.{members, hubs_at};
+
+    // The number of a hub.
+    fn hub(&self, node: usize, marker: usize) -> usize
+        requires { (node < self.now.first) × (marker < 8) }
+        ensures { result ≡ hub_of (members self.now) self.now.set self.now.first node marker }
+    {
+        self.first + self.ranks[node] * self.width + self.markers[marker]
+    }
+
+    // The hubs of a node, as an in-map.
+    pub(crate) fn in_map(&self, node: usize) -> [usize; 8]
+        requires { node < self.now.first }
+        ensures { result ≡ hubs_at self.now node }
+    {
+        let mut into = [0; 8];
+        for (marker, &on) in self.set.iter().enumerate() {
+            if on {
+                into[marker] = self.hub(node, marker);
+            }
+        }
+        into
+    }
 }

@@ -1,19 +1,12 @@
 // The hubs of a recursion, found in constant time.
-ghost use Rattle.std.specs.Prelude.{◌≡◌, ℕ, ◌+◌, ◌<◌, ◌≤◌, length, take, if◌then◌else◌, vec_len, slice_index};
+ghost use Rattle.std.specs.Prelude.{◌≡◌, ℕ, ◌<◌, ◌≤◌, length, take, vec_len, slice_index};
 ghost use Rattle.course.specs.Reach.{reached, trues};
-ghost use Rattle.course.specs.Hubs.{hub as hub_of};
-ghost use Rattle.course.specs.Recursions.{Numbers, members, hubs_at};
+ghost use Rattle.course.specs.Recursions.{Numbers};
 
 use crate::hub_table::Hubs;
-use crate::in_map::pick;
 use crate::reach::reach;
+use crate::rule::Rule;
 use crate::workspace::Workspace;
-
-fn one(flag: bool) -> usize
-    ensures { result ≡ (if flag then 1 else 0) }
-{
-    if flag { 1 } else { 0 }
-}
 
 // For each flag how many are set before it; how many are set in all.
 fn rank(flags: &[bool], ranks: &mut [usize]) -> usize
@@ -22,31 +15,24 @@ fn rank(flags: &[bool], ranks: &mut [usize]) -> usize
     ensures each { (v : ℕ) → v < length flags.now → slice_index ranks.new v ≡ trues (take v flags.now) }
 {
     let mut count: usize = 0;
-    for v in 0..flags.len() {
+    for (v, &flag) in flags.iter().enumerate() {
         ranks[v] = count;
-        count += one(flags[v]);
+        count += usize::from(flag);
     }
     count
 }
 
 // The hubs of the marked nodes below `first`.
-fn number_hubs(
-    marks: [bool; 1024],
-    set: [bool; 8],
-    first: usize,
-    place: usize,
-    frame: usize,
-) -> Hubs
+fn number_hubs(rule: Rule, marks: [bool; 1024], set: [bool; 8], first: usize) -> Hubs
     requires { first ≤ 1024 }
-    ensures { Numbers result place frame set first (take first marks) }
+    ensures { Numbers result rule.place rule.frame set first (take first marks) }
 {
     let mut ranks = [0; 1024];
     let mut markers = [0; 8];
     let _count = rank(&marks, &mut ranks);
     let width = rank(&set, &mut markers);
     Hubs {
-        place,
-        frame,
+        rule,
         set,
         first,
         marks,
@@ -56,41 +42,16 @@ fn number_hubs(
     }
 }
 
-// The hubs that a recursion makes next, from the number `first` on, of the nodes that arrows reach
-// from the root.
-pub(crate) fn find_hubs(
-    work: &Workspace,
-    root: usize,
-    first: usize,
-    set: [bool; 8],
-    place: usize,
-    frame: usize,
-) -> Hubs
-    requires { (root < vec_len work.now.nodes) × (first ≡ vec_len work.now.nodes) }
-    ensures { Numbers result place frame set (vec_len work.now.nodes) (reached (vec_len work.now.nodes) work.now.arrows.items root) }
-{
-    let mut marks = [false; 1024];
-    let mut slots = [0; 1024];
-    reach(work, root, &mut marks, &mut slots);
-    number_hubs(marks, set, first, place, frame)
-}
-
-// The number of a hub.
-pub(crate) fn hub(hubs: &Hubs, node: usize, marker: usize) -> usize
-    requires { (node < hubs.now.first) × (marker < 8) }
-    ensures { result ≡ hub_of (members hubs.now) hubs.now.set hubs.now.first node marker }
-{
-    hubs.first + hubs.ranks[node] * hubs.width + hubs.markers[marker]
-}
-
-// The hubs of a node, as an in-map.
-pub(crate) fn hub_map(hubs: &Hubs, node: usize) -> [usize; 8]
-    requires { node < hubs.now.first }
-    ensures { result ≡ hubs_at hubs.now node }
-{
-    let mut into = [0; 8];
-    for m in 0..8 {
-        into[m] = pick(hubs.set[m], hub(hubs, node, m), 0);
+impl Workspace {
+    // The hubs that a recursion makes next, from the number `first` on, of the nodes that arrows
+    // reach from the root.
+    pub(crate) fn find_hubs(&self, rule: Rule, root: usize, first: usize, set: [bool; 8]) -> Hubs
+        requires { (root < vec_len self.now.nodes) × (first ≡ vec_len self.now.nodes) }
+        ensures { Numbers result rule.place rule.frame set (vec_len self.now.nodes) (reached (vec_len self.now.nodes) self.now.arrows.items root) }
+    {
+        let mut marks = [false; 1024];
+        let mut slots = [0; 1024];
+        reach(self, root, &mut marks, &mut slots);
+        number_hubs(rule, marks, set, first)
     }
-    into
 }

@@ -3,6 +3,7 @@
 
 mod build;
 pub mod classes;
+mod compare;
 pub mod course;
 mod enter;
 pub mod environment;
@@ -17,8 +18,9 @@ mod outs;
 mod printed;
 mod reach;
 pub mod readings;
+mod recursion;
+mod rule;
 pub mod run;
 pub mod source;
 pub mod sources;
-mod terms;
 pub mod workspace;

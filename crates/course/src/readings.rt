@@ -1,10 +1,9 @@
 // What a workspace tells of the course that it holds.
 ghost use Rattle.std.specs.Prelude.{◌≡◌, length};
 ghost use Rattle.std.specs.List.{slice_get};
-ghost use Rattle.course.specs.Course.{list_number};
 ghost use Rattle.course.specs.View.{course_of, Counts};
 
-use crate::course::{Arrow, Comparison, Frame, ListName, Node, Sizes};
+use crate::course::{Arrow, Comparison, Frame, Node, Sizes};
 use crate::workspace::Workspace;
 
 impl Workspace {
@@ -74,19 +73,5 @@ impl Workspace {
         ensures { result ≡ slice_get (course_of self.now).comparisons number }
     {
         self.comparisons.get(number).copied()
-    }
-}
-
-impl ListName {
-    // The number of a list: nodes 1, arrows 2, frames 3, comparisons 4.
-    pub fn number(&self) -> usize
-        ensures { result ≡ list_number self.now }
-    {
-        match *self {
-            ListName::Nodes => 1,
-            ListName::Arrows => 2,
-            ListName::Frames => 3,
-            ListName::Comparisons => 4,
-        }
     }
 }

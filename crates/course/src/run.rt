@@ -1,32 +1,21 @@
 // The forward run, in memory that is taken once.
 ghost use Rattle.std.specs.Prelude.{◌≡◌, IfOk};
 ghost use Rattle.expression.specs.Admitted.{tree_of, whole_of};
-ghost use Rattle.course.specs.Forward.{forward, outermost as outermost_of};
+ghost use Rattle.course.specs.Forward.{forward};
 ghost use Rattle.course.specs.Labels.{by_class};
 ghost use Rattle.course.specs.Opening.{no_course as empty_course};
 ghost use Rattle.course.specs.Sources.{graph_of};
 ghost use Rattle.course.specs.View.{course_of, Ran};
 
 use crate::classes::Classes;
-use crate::course::{ARROWS, COMPARISONS, FRAMES, Full, NODES, Origin};
+use crate::course::{ARROWS, COMPARISONS, FRAMES, Full, NODES};
 use crate::environment::Environment;
-use crate::evaluate::evaluate;
-use crate::opening::{clear, enter_source};
+use crate::evaluate::Evaluator;
+use crate::rule::Rule;
 use crate::source::Source;
 use crate::workspace::Workspace;
 use expression::expression::Expression;
 use std::alloc::{AllocError, Global};
-
-// The environment of a whole expression: its one variable is the source's root.
-fn outermost() -> Environment
-    ensures { result ≡ outermost_of }
-{
-    Environment {
-        level: 0,
-        origins: [Origin::Blank; 5],
-        nodes: [0; 5],
-    }
-}
 
 impl Workspace {
     // Memory for every entry that fits, with an empty course.
@@ -61,12 +50,20 @@ impl Workspace {
     ) -> Result<usize, Full>
         ensures { Ran (forward (by_class classes.now) (graph_of source.now) (tree_of expression.now (whole_of expression.now))) self.new result }
     {
-        enter_source(self, source);
-        let env = outermost();
-        match evaluate(expression, classes, expression.whole(), &env, 0, self) {
+        self.enter_source(source);
+        let evaluator = Evaluator {
+            expression,
+            classes,
+            env: Environment::outermost(),
+        };
+        let rule = Rule {
+            place: expression.whole(),
+            frame: 0,
+        };
+        match evaluator.evaluate(rule, self) {
             Ok(into) => Ok(into[0]),
             Err(full) => {
-                clear(self);
+                self.clear();
                 Err(full)
             }
         }

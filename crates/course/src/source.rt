@@ -8,6 +8,7 @@ pub const SOURCE_ARROWS: usize = 256;
 
 // Nodes and arrows are numbered from 0, and node 0 is the root. An arrow is the pair of its tail
 // and its head.
+// Kept as an array with a count: making a source takes no heap, so it cannot fail for memory.
 #[derive(Drop)]
 pub struct Source {
     pub(crate) nodes: usize,
@@ -21,7 +22,7 @@ pub struct Source {
 }
 
 // Why a source is refused.
-#[derive(Clone, Copy)]
+#[derive(Clone, Copy, Debug, PartialEq, Eq)]
 pub enum SourceFault {
     // no node, or more than 128, or more than 256 arrows
     Count,

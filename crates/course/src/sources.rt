@@ -1,5 +1,5 @@
 // Making and reading a source.
-ghost use Rattle.std.specs.Prelude.{◌≡◌, length};
+ghost use Rattle.std.specs.Prelude.{◌≡◌, length, not, position};
 ghost use Rattle.std.specs.List.{slice_get};
 ghost use Rattle.course.specs.Ends.{joins as joins_of};
 ghost use Rattle.course.specs.Sources.{sized as sized_of, graph_of, Taken};
@@ -20,6 +20,13 @@ fn joins(nodes: usize, arrow: (usize, usize)) -> bool
     arrow.0 < nodes && arrow.1 < nodes
 }
 
+// The first arrow that has an end which is no node.
+fn first_outside(nodes: usize, arrows: &[(usize, usize)]) -> Option<usize>
+    ensures { result ≡ position (λ arrow. not (joins_of nodes arrow)) arrows.now }
+{
+    arrows.iter().position(|arrow| !joins(nodes, *arrow))
+}
+
 impl Source {
     // The source of so many nodes and these arrows, each told as the pair of its tail and its head.
     pub fn new(nodes: usize, arrows: &[(usize, usize)]) -> Result<Source, SourceFault>
@@ -28,13 +35,11 @@ impl Source {
         if !sized(nodes, arrows.len()) {
             return Err(SourceFault::Count);
         }
-        let mut ends = [(0, 0); 256];
-        for k in 0..arrows.len() {
-            if !joins(nodes, arrows[k]) {
-                return Err(SourceFault::End(k));
-            }
-            ends[k] = arrows[k];
+        if let Some(k) = first_outside(nodes, arrows) {
+            return Err(SourceFault::End(k));
         }
+        let mut ends = [(0, 0); 256];
+        ends[..arrows.len()].copy_from_slice(arrows);
         Ok(Source {
             nodes,
             arrows: ends,
@@ -60,10 +65,6 @@ impl Source {
     pub fn ends(&self, arrow: usize) -> Option<(usize, usize)>
         ensures { result ≡ slice_get (graph_of self.now).arrows arrow }
     {
-        if arrow < self.count {
-            Some(self.arrows[arrow])
-        } else {
-            None
-        }
+        self.arrows[..self.count].get(arrow).copied()
     }
 }

@@ -1,5 +1,5 @@
 use Rattle.std.proofs.Common.{◌≡◌, ℕ, zero, suc, ◌<◌, Bool, false, cond, ◌≢◌, List, [], ◌∷◌, length, get_or, sym, refl, ap, ◌∙◌, arith, length-set, rules, below_more}
-use Rattle.std.proofs.lemmas.List.{get_or-set_same, get_or-set_other, ext_get_or}
+use Rattle.std.proofs.lemmas.List.{ext_get_or}
 use Rattle.course.specs.Forward.{merged}
 use Rattle.course.proofs.in_map.merge.Goals as goal
 
@@ -18,18 +18,6 @@ merged_long (t ∷ ms) [] b i j = absurd (omega arith)
 merged_long (t ∷ ms) (x ∷ a) [] i j = absurd (omega arith)
 merged_long (t ∷ ms) (x ∷ a) (y ∷ b) i j = ap suc (merged_long ms a b (omega arith) (omega arith))
 
-pub loop-m-init : goal.loop-m-init
-loop-m-init c = (search rules, λ k h. absurd (omega arith))
-
-pub loop-m-preserved : goal.loop-m-preserved
-loop-m-preserved c =
-    let long = c.loop-m.invariant.0 in (
-      length-set c.loop-m.into c.loop-m.m c.pick.result ∙ long,
-      below_more _ _
-          (λ k h. let ne : k ≢ c.loop-m.m = omega arith in get_or-set_other c.loop-m.into c.loop-m.m k c.pick.result 0 ne ∙ c.loop-m.invariant.1 k h)
-          (get_or-set_same c.loop-m.into c.loop-m.m c.pick.result 0 (omega arith) ∙ c.pick.ensures),
-    )
-
 pub returns : goal.returns
 returns c =
     let ms = c.args.set in
@@ -38,5 +26,5 @@ returns c =
     let l0 : length ms ≡ 8 = search rules in
     let l1 : length a ≡ 8 = search rules in
     let l2 : length b ≡ 8 = search rules in
-    ext_get_or 0 c.loop-m.into (merged ms a b) (c.loop-m.invariant.0 ∙ sym (merged_long ms a b (omega arith) (omega arith) ∙ l0))
-    (λ k h. c.loop-m.invariant.1 k (omega (arith, c.loop-m.invariant.0, h)) ∙ sym (merged_at ms a b k (omega (arith, c.loop-m.invariant.0, h)) (omega (arith, c.loop-m.invariant.0, h)) (omega (arith, c.loop-m.invariant.0, h))))
+    ext_get_or 0 c.loop-marker.into (merged ms a b) (c.loop-marker.invariant.0 ∙ sym (merged_long ms a b (omega arith) (omega arith) ∙ l0))
+    (λ k h. c.loop-marker.invariant.1 k (omega (arith, c.loop-marker.invariant.0, h)) ∙ sym (merged_at ms a b k (omega (arith, c.loop-marker.invariant.0, h)) (omega (arith, c.loop-marker.invariant.0, h)) (omega (arith, c.loop-marker.invariant.0, h))))

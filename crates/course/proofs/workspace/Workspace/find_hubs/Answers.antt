@@ -1,0 +1,19 @@
+use Rattle.std.proofs.Common.{take, vec_items, vec_len, ap, ◌∙◌, arith}
+use Rattle.course.proofs.Walks.{reached_front}
+use Rattle.course.proofs.workspace.Workspace.find_hubs.Goals as goal
+
+pub number_hubs-requires : goal.number_hubs-requires
+number_hubs-requires c = omega (arith, c.requires.1, c.args.self.now.nodes_within)
+
+pub returns : goal.returns
+returns c =
+    let w = c.args.self.now in
+    let n = c.number_hubs.ensures in
+    record {
+      place = n.place;
+      frame = n.frame;
+      set = n.set;
+      first = n.first ∙ c.requires.1;
+      nodes = n.nodes ∙ ap (λ k. take k c.reach.new.marks) c.requires.1 ∙ ap (take (vec_len w.nodes)) c.reach.ensures
+          ∙ reached_front (vec_items w.arrows) c.args.root (vec_len w.nodes) 1024 w.nodes_within;
+    }

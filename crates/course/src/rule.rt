@@ -1,0 +1,8 @@
+// The rule that makes an entry.
+
+// The rule of a place of the expression in a frame.
+#[derive(Clone, Copy)]
+pub struct Rule {
+    pub place: usize,
+    pub frame: usize,
+}
