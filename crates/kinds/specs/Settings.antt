@@ -10,8 +10,6 @@
 --   making v          what making a label of v answers
 --   text_of m         the text of a label that means m
 --   setting_text s    the text of the label s
---   Reads bs a b r    r is the n of a text bs that is the letter a, a colon and the digits of n in the base b; it is
---                     none where bs begins otherwise
 --   Holds v           that 32 bits hold the float of v, and sixteen its count
 --   Made s            that making gives s, of a setting that the machine holds
 use Rattle.std.specs.Prelude.{◌≡◌, ℕ, ◌*◌, ◌<◌, ◌≤◌, Bool, true, false, cond, not, ◌&&◌, ◌||◌, T, List, [], ◌∷◌, length, Some, Ok, Err, Option, Result, ◌==◌, nat_le, slice_index, to_bits, Float}
@@ -80,10 +78,6 @@ text_of mark = 77 ∷ []
 
 abbrev pub setting_text : SettingLabel → List ℕ
 setting_text s = text_of (meant s)
-
-pub record Reads (bs : List ℕ) (letter base : ℕ) (r : Option ℕ) : Type 0 where
-  pub finds : (w n : ℕ) → length (spelled base w n) ≤ 8 → letter ∷ 58 ∷ spelled base w n ≡ bs → r ≡ Some n
-  pub begins : (n : ℕ) → r ≡ Some n → slice_index bs 0 ≡ letter
 
 abbrev pub Holds : Setting → Type 0
 Holds (Seconds x) = T (fits binary32 x)

@@ -3,6 +3,7 @@ ghost use Rattle.std.specs.Prelude.{◌≡◌};
 ghost use Rattle.kinds.specs.Texts.{house};
 
 // For each byte whether it is in the alphabet.
+// Kept as a table: whether a byte is in the alphabet is looked up, and no branch is taken on it.
 const HOUSE: [bool; 256] = [
     // 0x00 to 0x0F: none
     false, false, false, false, false, false, false, false, false, false, false, false, false,
@@ -58,5 +59,5 @@ const HOUSE: [bool; 256] = [
 pub fn in_house(byte: u8) -> bool
     ensures { result ≡ house byte }
 {
-    HOUSE[byte as usize]
+    HOUSE[usize::from(byte)]
 }

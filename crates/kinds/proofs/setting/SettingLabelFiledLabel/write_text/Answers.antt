@@ -31,7 +31,7 @@ returns c =
     let text = c.append_text.ensures.text in
     let slots : c.append_text.new.list.slots.now ≡ overlaid t old = listed old c.new-list.result c.append_text.new.list t made.items made.rest text in
     let none : length (held c.new-list.result) ≡ 0 = ap length made.items in
-    let len : c.count.result ≡ length t = omega (arith, c.count.ensures.value, appended_long text) in
+    let len : c.count.result ≡ length t = omega (arith, c.count.ensures, appended_long text) in
     let same : _ ≡ overlaid t old = search rules in
     record {
       value = ap (λ k. Some k) len ∙ long_enough (length old) _ _ c.if-out-lt-TEXT_SIZE.false;
