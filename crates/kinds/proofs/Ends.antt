@@ -1,5 +1,5 @@
 -- Where the bytes before the zeros at the end of a row end. Assumes nothing.
-use Rattle.std.proofs.Common.{◌≡◌, ◌≢◌, ℕ, zero, suc, ◌+◌, ◌<◌, ◌≤◌, List, [], ◌∷◌, length, get_or, take, refl, ap, arith}
+use Rattle.std.proofs.Common.{◌≡◌, ◌≢◌, ℕ, zero, suc, ◌+◌, ◌≤◌, List, [], ◌∷◌, length, get_or, take, refl, ap, arith}
 use Rattle.kinds.specs.Texts.{trimmed_from, trimmed}
 
 -- n bytes, of which the last is no zero, and only zeros after them

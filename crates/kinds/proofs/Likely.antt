@@ -1,5 +1,5 @@
 -- The setting of a text, from its first byte and from what its field reads as. Assumes nothing.
-use Rattle.std.proofs.Common.{◌≡◌, ℕ, ◌^◌, ◌<◌, List, ◌∷◌, length, drop, Some, None, Option, MatchOption, sym, ap, ◌∙◌, subst, refl, arith, slice_index}
+use Rattle.std.proofs.Common.{◌≡◌, ℕ, ◌^◌, ◌<◌, List, ◌∷◌, drop, Some, None, Option, MatchOption, sym, ap, ◌∙◌, subst, refl, arith, slice_index}
 use Rattle.std.specs.Float.{binary32}
 use Rattle.std.specs.Prelude.{from_bits, to_bits, Float}
 use Rattle.std.specs.Float.Ieee.Bits.{of_bits-to_bits, to_bits-lt}

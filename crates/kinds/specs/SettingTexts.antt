@@ -1,17 +1,13 @@
 -- Texts of settings: their lengths, and back from a text to its setting. Assumes nothing.
-use Rattle.std.specs.Prelude.{◌≡◌, ℕ, ◌^◌, ◌<◌, ◌≤◌, Bool, true, false, cond, ◌↔◌, T, List, length, drop, Some, None, Ok, Err, Option, ◌≢◌, from_bits, slice_index, to_bits, refl, Float}
-use Rattle.std.proofs.Common.{ap, subst, ◌∙◌, arith}
-use Rattle.std.specs.Float.Ieee.{fits}
-use Rattle.std.specs.Float.{binary32}
-use Rattle.std.specs.Float.Ieee.Bits.{of_bits-to_bits, to_bits-lt}
+use Rattle.std.specs.Prelude.{◌≡◌, ℕ, ◌^◌, ◌<◌, ◌≤◌, Bool, true, false, cond, ◌↔◌, List, length, drop, Ok, Err, slice_index, refl}
+use Rattle.std.proofs.Common.{ap, subst, arith}
 use Rattle.std.proofs.lemmas.Bool.{both_ways, cond-true, eqb-true, eq-eqb}
 use Rattle.kinds.specs.declared.refusal.Refusal.TheVariants.{Setting as BadSetting}
 use Rattle.kinds.specs.declared.setting.SettingLabel.{SettingLabel}
 use Rattle.kinds.specs.declared.setting.Setting.{Setting}
-use Rattle.kinds.specs.declared.setting.Setting.TheVariants.{Seconds, Metres, Count, Mark}
 use Rattle.kinds.specs.Digits.{spelled}
 use Rattle.kinds.specs.Filed.{Tied}
-use Rattle.kinds.specs.Settings.{Meant, seconds, metres, count, mark, meant_by, meant, alike_meant, legal, making, text_of, setting_text}
+use Rattle.kinds.specs.Settings.{Meant, seconds, metres, count, mark, meant, alike_meant, legal, making, text_of, setting_text}
 use Rattle.kinds.specs.Spelled.{spelled_long, spelled_short, same_from_spelled}
 
 heads : (l k : List ℕ) → l ≡ k → slice_index l 0 ≡ slice_index k 0

@@ -127,6 +127,7 @@ impl FiledLabel for SettingLabel {
 
     ghost tied = { setting_tied };
 
+    #[tactic(auto, using(crate::proofs::Buffers::listed, crate::specs::SettingTexts::setting_tied))]
     fn write_text(&self, out: &mut [u8]) -> Option<usize> {
         if out.len() < TEXT_SIZE {
             return None;
