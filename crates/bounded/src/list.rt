@@ -22,23 +22,17 @@ impl<'a, T: Copy> Bounded<'a, T> {
     }
 
     // How many elements the list has.
-    pub fn count(&mut self) -> usize
-        ensures value { result ≡ length (held self.old) }
-        ensures same { self.new ≡ self.old }
+    pub fn count(&self) -> usize
+        ensures { result ≡ length (held self.now) }
     {
         self.len.min(self.slots.len())
     }
 
     // The element at `index`.
-    pub fn get(&mut self, index: usize) -> Option<T>
-        ensures value { result ≡ slice_get (held self.old) index }
-        ensures same { self.new ≡ self.old }
+    pub fn get(&self, index: usize) -> Option<T>
+        ensures { result ≡ slice_get (held self.now) index }
     {
-        if index < self.len && index < self.slots.len() {
-            Some(self.slots[index])
-        } else {
-            None
-        }
+        self.slots[..self.count()].get(index).copied()
     }
 
     // Puts `x` at the end where there is room, and says whether there was.
@@ -64,9 +58,7 @@ impl<'a, T: Copy> Bounded<'a, T> {
         ensures memory { self.new.slots.now ≡ self.old.slots.now }
         ensures lender { self.new.slots.ghost_name ≡ self.old.slots.ghost_name }
     {
-        if n < self.len {
-            self.len = n;
-        }
+        self.len = self.len.min(n);
     }
 }
 

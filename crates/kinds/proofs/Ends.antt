@@ -1,28 +1,17 @@
--- Taking zeros off the end, one by one. Assumes nothing.
-use Rattle.std.proofs.Common.{◌≡◌, ℕ, zero, suc, ◌+◌, ◌-◌, ◌<◌, ◌≤◌, List, [], ◌∷◌, ◌++◌, length, get_or, take, sym, refl, ap, ◌∙◌, arith}
-use Rattle.std.proofs.lemmas.List.{take_more}
+-- Where the bytes before the zeros at the end of a row end. Assumes nothing.
+use Rattle.std.proofs.Common.{◌≡◌, ◌≢◌, ℕ, zero, suc, ◌+◌, ◌≤◌, List, [], ◌∷◌, length, get_or, take, refl, ap, arith}
 use Rattle.kinds.specs.Texts.{trimmed_from, trimmed}
 
-push_zero : (xs : List ℕ) → trimmed (xs ++ 0 ∷ []) ≡ trimmed xs
-push_zero [] = refl
-push_zero (x ∷ xs) = ap (trimmed_from x) (push_zero xs)
-
-from_push : (x : ℕ) (xs : List ℕ) (y : ℕ) → trimmed_from x (xs ++ y ∷ []) ≡ x ∷ (xs ++ y ∷ [])
-from_push zero [] y = refl
-from_push zero (z ∷ xs) y = refl
-from_push (suc x) xs y = refl
-
-push_some : (xs : List ℕ) (y : ℕ) → (y ≡ 0 → ⊥) → trimmed (xs ++ y ∷ []) ≡ xs ++ y ∷ []
-push_some [] zero h = absurd (h refl)
-push_some [] (suc y) h = refl
-push_some (x ∷ xs) y h = ap (trimmed_from x) (push_some xs y h) ∙ from_push x xs y
-
-last_of : (bs : List ℕ) (n : ℕ) → 0 < n → n ≤ length bs → take n bs ≡ take (n - 1) bs ++ get_or bs (n - 1) 0 ∷ []
-last_of bs n h k = let e : n ≡ (n - 1) + 1 = omega arith in ap (λ (m : ℕ). take m bs) e ∙ take_more bs (n - 1) 0 (omega arith)
-
-pub less : (bs : List ℕ) (n : ℕ) → 0 < n → n ≤ length bs → get_or bs (n - 1) 0 ≡ 0 → trimmed (take (n - 1) bs) ≡ trimmed (take n bs)
-less bs n h k z =
-    sym (ap trimmed (last_of bs n h k ∙ ap (λ (y : ℕ). take (n - 1) bs ++ y ∷ []) z) ∙ push_zero (take (n - 1) bs))
-
-pub done : (bs : List ℕ) (n : ℕ) → 0 < n → n ≤ length bs → (get_or bs (n - 1) 0 ≡ 0 → ⊥) → trimmed (take n bs) ≡ take n bs
-done bs n h k some = ap trimmed (last_of bs n h k) ∙ push_some (take (n - 1) bs) (get_or bs (n - 1) 0) some ∙ sym (last_of bs n h k)
+-- n bytes, of which the last is no zero, and only zeros after them
+pub trimmed_at : (bs : List ℕ) (n : ℕ) → n ≤ length bs → ((k : ℕ) → k + 1 ≡ n → get_or bs k 0 ≢ 0) → ((k : ℕ) → n ≤ k → get_or bs k 0 ≡ 0) → take n bs ≡ trimmed bs
+trimmed_at [] zero le last zeros = refl
+trimmed_at [] (suc n) le last zeros = absurd (omega arith)
+trimmed_at (zero ∷ bs) zero le last zeros =
+    ap (trimmed_from 0) (trimmed_at bs zero (omega arith) (λ k e. absurd (omega arith)) (λ k h. zeros (suc k) (omega arith)))
+trimmed_at (suc b ∷ bs) zero le last zeros = absurd (let z = zeros 0 (omega arith) in omega arith)
+trimmed_at (zero ∷ bs) (suc zero) le last zeros = absurd (last 0 (omega arith) refl)
+trimmed_at (zero ∷ []) (suc (suc n)) le last zeros = absurd (omega arith)
+trimmed_at (zero ∷ c ∷ bs) (suc (suc n)) le last zeros =
+    ap (trimmed_from 0) (trimmed_at (c ∷ bs) (suc n) (omega arith) (λ k e. last (suc k) (omega arith)) (λ k h. zeros (suc k) (omega arith)))
+trimmed_at (suc b ∷ bs) (suc n) le last zeros =
+    ap (λ (l : List ℕ). suc b ∷ l) (trimmed_at bs n (omega arith) (λ k e. last (suc k) (omega arith)) (λ k h. zeros (suc k) (omega arith)))

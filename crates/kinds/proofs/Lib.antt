@@ -1,5 +1,6 @@
 pub mod Buffers
 pub mod Ends
+pub mod Likely
 pub mod Makes
 pub mod Places
 pub mod Ranges

@@ -1,43 +1,37 @@
--- Steps of the loop that makes a text label, and what reading a text answers. Assumes nothing.
-use Rattle.std.proofs.Common.{◌≡◌, ℕ, zero, suc, ◌+◌, ◌-◌, ◌<◌, ◌≤◌, Bool, true, false, cond, ◌&&◌, leb, List, [], ◌∷◌, ◌++◌, length, get_or, take, set, replicate, Ok, Err, Result, sym, refl, ap, ◌∙◌, subst, append_assoc, le_of_suc-le-suc, not-suc-le-zero, arith, MatchResult}
-use Rattle.std.proofs.lemmas.List.{take_more, set_at, length-take-le}
-use Rattle.std.proofs.lemmas.Bool.{and_from, and_parts, and_left, and_right, le-leb, cond-true, cond-false, both_ways}
+-- What making a text label answers, and what reading a text answers. Assumes nothing.
+use Rattle.std.proofs.Common.{◌≡◌, ℕ, ◌-◌, ◌≤◌, Bool, true, false, cond, ◌&&◌, leb, List, ◌++◌, length, drop, replicate, Ok, Err, Result, sym, refl, ap, ◌∙◌, subst, arith, MatchResult}
+use Rattle.std.specs.List.{list_all}
+use Rattle.std.proofs.lemmas.List.{drop-replicate}
+use Rattle.std.proofs.lemmas.Bool.{and_parts, le-leb, leb-true, cond-true, cond-false, both_ways}
 use Rattle.kinds.specs.declared.refusal.Refusal.{Refusal}
 use Rattle.kinds.specs.declared.refusal.Refusal.TheVariants.{Text}
 use Rattle.kinds.specs.declared.text.TextLabel.{TextLabel}
-use Rattle.kinds.specs.Texts.{bytes_of, house, all_house, legal, label_of, making, Made}
-use Rattle.kinds.specs.Trims.{trimmed_house}
+use Rattle.kinds.specs.Texts.{trimmed, bytes_of, house, legal, label_of, making, Kept, Made}
+use Rattle.kinds.specs.Trims.{trimmed_house, kept_of}
 
-pub house_push : (xs : List ℕ) (y : ℕ) → all_house xs ≡ true → house y ≡ true → all_house (xs ++ y ∷ []) ≡ true
-house_push [] y h k = and_from (house y) true k refl
-house_push (x ∷ xs) y h k = and_from (house x) _ (and_parts _ _ h).0 (house_push xs y (and_parts _ _ h).1 k)
+-- the bytes of a text, and zeros up to sixteen
+pub filled : (xs row : List ℕ) → row ≡ xs → row ++ drop (length xs) (replicate 16 0) ≡ (label_of xs).bytes
+filled xs row is = ap (λ (l : List ℕ). l ++ drop (length xs) (replicate 16 0)) is ∙ ap (λ (l : List ℕ). xs ++ l) (drop-replicate (length xs) 16 0)
 
-pub house_more : (xs : List ℕ) (i : ℕ) → i < length xs → all_house (take i xs) ≡ true → house (get_or xs i 0) ≡ true → all_house (take (i + 1) xs) ≡ true
-house_more xs i lt h k = rw (take_more xs i 0 lt) (house_push (take i xs) _ h k)
+-- a text of a right length is a label's if its letters are of the alphabet
+pub legal_by_letters : (xs : List ℕ) (said : Bool) → 1 ≤ length xs → length xs ≤ 16 → said ≡ list_all house xs → said ≡ legal xs
+legal_by_letters xs said some few is = rw (le-leb 1 (length xs) some, le-leb (length xs) 16 few) is
 
-pub house_not : (xs : List ℕ) (i : ℕ) → i < length xs → house (get_or xs i 0) ≡ false → all_house xs ≡ false
-house_not [] i lt k = absurd (not-suc-le-zero lt)
-house_not (x ∷ xs) zero lt k = and_left (house x) (all_house xs) k
-house_not (x ∷ xs) (suc i) lt k = and_right (house x) (all_house xs) (house_not xs i (le_of_suc-le-suc lt) k)
+-- a text that is a label's has letters of the alphabet
+letters : (xs : List ℕ) → legal xs ≡ true → list_all house xs ≡ true
+letters xs h = (and_parts (leb (length xs) 16) (list_all house xs) (and_parts (leb 1 (length xs)) (leb (length xs) 16 && list_all house xs) h).1).1
 
-pub bytes_more : (xs bs : List ℕ) (i : ℕ) → i < length xs → length xs ≤ 16 → bs ≡ take i xs ++ replicate (16 - i) 0 → set bs i (get_or xs i 0) ≡ take (i + 1) xs ++ replicate (16 - (i + 1)) 0
-bytes_more xs bs i lt le e =
-    let n : 16 - i ≡ suc (16 - (i + 1)) = omega arith in
-    let f : bs ≡ take i xs ++ (0 ∷ replicate (16 - (i + 1)) 0) = e ∙ ap (λ (k : ℕ). take i xs ++ replicate k 0) n in
-    ap (λ (l : List ℕ). set l i (get_or xs i 0)) f
-    ∙ set_at (take i xs) 0 _ (get_or xs i 0) i (length-take-le i xs (omega arith))
-    ∙ sym (ap (λ (l : List ℕ). l ++ replicate (16 - (i + 1)) 0) (take_more xs i 0 lt) ∙ append_assoc (take i xs) _ _)
-
-pub made : (xs : List ℕ) → 1 ≤ length xs → length xs ≤ 16 → all_house xs ≡ true → Ok (label_of xs) ≡ making xs
-made xs a b h = sym (cond-true (legal xs) _ _ (and_from _ _ (le-leb _ _ a) (and_from _ _ (le-leb _ _ b) h)))
-
-pub refused : (xs : List ℕ) → all_house xs ≡ false → Err Text ≡ making xs
-refused xs h = sym (cond-false (legal xs) _ _ (and_right (leb 1 (length xs)) _ (and_right (leb (length xs) 16) _ h)))
+-- the row of the bytes of a label's text, and zeros, is the label that making gives
+pub made : (xs row : List ℕ) → legal xs ≡ true → row ≡ (label_of xs).bytes → (Ok (record { bytes = row }) ≡ making xs) × (trimmed row ≡ xs) × Kept (record { bytes = row })
+made xs row h is =
+    let sizes = and_parts (leb 1 (length xs)) (leb (length xs) 16 && list_all house xs) h in
+    let means : trimmed row ≡ xs = ap trimmed is ∙ trimmed_house xs (16 - length xs) (letters xs h) in (
+      ap (λ (l : List ℕ). Ok (record { bytes = l })) is ∙ sym (cond-true (legal xs) _ _ h),
+      means,
+      kept_of row xs means is (leb-true 1 (length xs) sizes.0) (leb-true (length xs) 16 (and_parts (leb (length xs) 16) (list_all house xs) sizes.1).0) (letters xs h),
+    )
 
 -- what making answers is what reading the text answers
-letters : (xs : List ℕ) → legal xs ≡ true → all_house xs ≡ true
-letters xs h = (and_parts (leb (length xs) 16) (all_house xs) (and_parts (leb 1 (length xs)) (leb (length xs) 16 && all_house xs) h).1).1
-
 abbrev Answered : List ℕ → Result TextLabel Refusal → Type 0
 Answered bs r = MatchResult r (λ t. Made t × (bytes_of t ≡ bs)) (λ e. (e ≡ Text) × ((t : TextLabel) → Made t → bytes_of t ≡ bs → ⊥))
 

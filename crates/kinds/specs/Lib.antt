@@ -1,5 +1,6 @@
 pub mod Classes
 pub mod Digits
+pub mod Fields
 pub mod Filed
 pub mod Refusals
 pub mod Settings

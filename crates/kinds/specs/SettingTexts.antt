@@ -1,17 +1,13 @@
 -- Texts of settings: their lengths, and back from a text to its setting. Assumes nothing.
-use Rattle.std.specs.Prelude.{◌≡◌, ℕ, ◌^◌, ◌<◌, ◌≤◌, Bool, true, false, cond, ◌↔◌, T, List, length, drop, Some, None, Ok, Err, Option, ◌≢◌, from_bits, slice_index, to_bits, refl, Float}
-use Rattle.std.proofs.Common.{ap, subst, ◌∙◌, arith}
-use Rattle.std.specs.Float.Ieee.{fits}
-use Rattle.std.specs.Float.{binary32}
-use Rattle.std.specs.Float.Ieee.Bits.{of_bits-to_bits, to_bits-lt}
+use Rattle.std.specs.Prelude.{◌≡◌, ℕ, ◌^◌, ◌<◌, ◌≤◌, Bool, true, false, cond, ◌↔◌, List, length, drop, Ok, Err, slice_index, refl}
+use Rattle.std.proofs.Common.{ap, subst, arith}
 use Rattle.std.proofs.lemmas.Bool.{both_ways, cond-true, eqb-true, eq-eqb}
 use Rattle.kinds.specs.declared.refusal.Refusal.TheVariants.{Setting as BadSetting}
 use Rattle.kinds.specs.declared.setting.SettingLabel.{SettingLabel}
 use Rattle.kinds.specs.declared.setting.Setting.{Setting}
-use Rattle.kinds.specs.declared.setting.Setting.TheVariants.{Seconds, Metres, Count, Mark}
 use Rattle.kinds.specs.Digits.{spelled}
 use Rattle.kinds.specs.Filed.{Tied}
-use Rattle.kinds.specs.Settings.{Meant, seconds, metres, count, mark, meant_by, meant, alike_meant, legal, making, text_of, setting_text, Reads, Holds}
+use Rattle.kinds.specs.Settings.{Meant, seconds, metres, count, mark, meant, alike_meant, legal, making, text_of, setting_text}
 use Rattle.kinds.specs.Spelled.{spelled_long, spelled_short, same_from_spelled}
 
 heads : (l k : List ℕ) → l ≡ k → slice_index l 0 ≡ slice_index k 0
@@ -75,44 +71,6 @@ pattern_long n h = spelled_long 16 8 n (omega arith) (omega arith) (omega arith)
 
 pub count_short : (n : ℕ) → n < 65536 → length (spelled 10 1 n) ≤ 5
 count_short n h = spelled_short 10 5 n (omega arith) (omega arith) (omega arith)
-
--- ---- back to the setting
-
-pattern_fits : (x : Float) → T (fits binary32 x) → length (spelled 16 8 (to_bits binary32 x)) ≤ 8
-pattern_fits x h = omega (arith, pattern_long (to_bits binary32 x) (to_bits-lt binary32 x h))
-
-pub some_same : (r : Option ℕ) (m n : ℕ) → r ≡ Some m → r ≡ Some n → m ≡ n
-some_same r m n p q = cc
-
-pub none_some : (r : Option ℕ) (n : ℕ) → r ≡ None → r ≢ Some n
-none_some r n p q = let z : ◌≡◌ {A = ℕ} 0 1 = cc in omega arith
-
-pub at_seconds : (bs : List ℕ) (r : Option ℕ) (n : ℕ) → Reads bs 83 16 r → r ≡ Some n → (v : Setting) → Holds v → text_of (meant_by v) ≡ bs → Seconds (from_bits binary32 n) ≡ v
-at_seconds bs r n reads is (Seconds x) h e =
-    ap (λ (p : ℕ). Seconds (from_bits binary32 p)) (some_same r n _ is (reads.finds 8 (to_bits binary32 x) (pattern_fits x h) e)) ∙ ap (λ (y : Float). Seconds y) (of_bits-to_bits binary32 x h)
-at_seconds bs r n reads is (Metres x) h e = absurd (omega (arith, reads.begins n is, heads _ _ e))
-at_seconds bs r n reads is (Count m) h e = absurd (omega (arith, reads.begins n is, heads _ _ e))
-at_seconds bs r n reads is Mark h e = absurd (omega (arith, reads.begins n is, heads _ _ e))
-
-pub at_metres : (bs : List ℕ) (r : Option ℕ) (n : ℕ) → Reads bs 76 16 r → r ≡ Some n → (v : Setting) → Holds v → text_of (meant_by v) ≡ bs → Metres (from_bits binary32 n) ≡ v
-at_metres bs r n reads is (Metres x) h e =
-    ap (λ (p : ℕ). Metres (from_bits binary32 p)) (some_same r n _ is (reads.finds 8 (to_bits binary32 x) (pattern_fits x h) e)) ∙ ap (λ (y : Float). Metres y) (of_bits-to_bits binary32 x h)
-at_metres bs r n reads is (Seconds x) h e = absurd (omega (arith, reads.begins n is, heads _ _ e))
-at_metres bs r n reads is (Count m) h e = absurd (omega (arith, reads.begins n is, heads _ _ e))
-at_metres bs r n reads is Mark h e = absurd (omega (arith, reads.begins n is, heads _ _ e))
-
-pub at_count : (bs : List ℕ) (r : Option ℕ) (n : ℕ) → Reads bs 67 10 r → r ≡ Some n → (v : Setting) → Holds v → text_of (meant_by v) ≡ bs → Count n ≡ v
-at_count bs r n reads is (Count m) h e = ap (λ (k : ℕ). Count k) (some_same r n m is (reads.finds 1 m (omega (arith, count_short m h)) e))
-at_count bs r n reads is (Seconds x) h e = absurd (omega (arith, reads.begins n is, heads _ _ e))
-at_count bs r n reads is (Metres x) h e = absurd (omega (arith, reads.begins n is, heads _ _ e))
-at_count bs r n reads is Mark h e = absurd (omega (arith, reads.begins n is, heads _ _ e))
-
--- no text of a number reads as a number too large for a count, or as none
-pub at_mark : (bs : List ℕ) (a b d : Option ℕ) → Reads bs 83 16 a → Reads bs 76 16 b → Reads bs 67 10 d → a ≡ None → b ≡ None → ((n : ℕ) → n < 65536 → d ≢ Some n) → (v : Setting) → Holds v → text_of (meant_by v) ≡ bs → Mark ≡ v
-at_mark bs a b d s l c no_s no_l no_c (Seconds x) h e = absurd (none_some a _ no_s (s.finds 8 (to_bits binary32 x) (pattern_fits x h) e))
-at_mark bs a b d s l c no_s no_l no_c (Metres x) h e = absurd (none_some b _ no_l (l.finds 8 (to_bits binary32 x) (pattern_fits x h) e))
-at_mark bs a b d s l c no_s no_l no_c (Count m) h e = absurd (no_c m h (c.finds 1 m (omega (arith, count_short m h)) e))
-at_mark bs a b d s l c no_s no_l no_c Mark h e = refl
 
 -- ---- labels that making gives
 

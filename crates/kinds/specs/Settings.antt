@@ -10,11 +10,9 @@
 --   making v          what making a label of v answers
 --   text_of m         the text of a label that means m
 --   setting_text s    the text of the label s
---   Reads bs a b r    r is the n of a text bs that is the letter a, a colon and the digits of n in the base b; it is
---                     none where bs begins otherwise
 --   Holds v           that 32 bits hold the float of v, and sixteen its count
 --   Made s            that making gives s, of a setting that the machine holds
-use Rattle.std.specs.Prelude.{◌≡◌, ℕ, ◌*◌, ◌<◌, ◌≤◌, Bool, true, false, cond, not, ◌&&◌, ◌||◌, T, List, [], ◌∷◌, length, Some, Ok, Err, Option, Result, ◌==◌, nat_le, slice_index, to_bits, Float}
+use Rattle.std.specs.Prelude.{◌≡◌, ℕ, ◌*◌, ◌<◌, Bool, true, false, cond, not, ◌&&◌, ◌||◌, T, List, [], ◌∷◌, Ok, Err, Result, ◌==◌, nat_le, to_bits, Float}
 use Rattle.std.specs.Float.{nan, inf, fin, binary32}
 use Rattle.std.specs.Float.Ieee.{fits, up, down}
 use Rattle.kinds.specs.declared.refusal.Refusal.{Refusal}
@@ -39,21 +37,10 @@ meant s = meant_by s.setting
 
 abbrev pub alike_meant : Meant → Meant → Bool
 alike_meant (seconds m) (seconds n) = m == n
-alike_meant (seconds m) (metres n) = false
-alike_meant (seconds m) (count n) = false
-alike_meant (seconds m) mark = false
-alike_meant (metres m) (seconds n) = false
 alike_meant (metres m) (metres n) = m == n
-alike_meant (metres m) (count n) = false
-alike_meant (metres m) mark = false
-alike_meant (count m) (seconds n) = false
-alike_meant (count m) (metres n) = false
 alike_meant (count m) (count n) = m == n
-alike_meant (count m) mark = false
-alike_meant mark (seconds n) = false
-alike_meant mark (metres n) = false
-alike_meant mark (count n) = false
 alike_meant mark mark = true
+alike_meant _ _ = false
 
 -- a number is a sign, m and e, and is m * 2 ^ e, which is m * up e / down e
 abbrev pub inside : Float → Bool
@@ -80,10 +67,6 @@ text_of mark = 77 ∷ []
 
 abbrev pub setting_text : SettingLabel → List ℕ
 setting_text s = text_of (meant s)
-
-pub record Reads (bs : List ℕ) (letter base : ℕ) (r : Option ℕ) : Type 0 where
-  pub finds : (w n : ℕ) → length (spelled base w n) ≤ 8 → letter ∷ 58 ∷ spelled base w n ≡ bs → r ≡ Some n
-  pub begins : (n : ℕ) → r ≡ Some n → slice_index bs 0 ≡ letter
 
 abbrev pub Holds : Setting → Type 0
 Holds (Seconds x) = T (fits binary32 x)

@@ -1,13 +1,19 @@
 -- Laws of digits: one digit more, how many there are, and back from digits to the number. Assumes nothing.
-use Rattle.std.specs.Prelude.{◌≡◌, ℕ, zero, suc, ◌+◌, ◌-◌, ◌*◌, ◌/◌, ◌%◌, ◌^◌, ◌<◌, ◌≤◌, max, ◌⊎◌, List, [], ◌∷◌, ◌++◌, map, length, take, replicate, slice_index, refl}
-use Rattle.std.proofs.Common.{sym, ap, subst, ◌∙◌, append_assoc, inl, inr, zero-lt-suc, div-le_self, le-div_iff_mul-le, arith, length-append}
-use Rattle.std.proofs.Math.Nat.{zero-div, zero-mod, sub-zero, div-eq_of_lt, div-lt_self, pow-le-pow_left, pow-le-pow_right}
+use Rattle.std.specs.Prelude.{◌≡◌, ℕ, zero, suc, ◌+◌, ◌-◌, ◌*◌, ◌/◌, ◌%◌, ◌^◌, ◌<◌, ◌≤◌, max, ◌⊎◌, List, [], ◌∷◌, ◌++◌, map, length, take, drop, replicate, slice_index, refl}
+use Rattle.std.proofs.Common.{sym, ap, ap₂, ◌∙◌, append_assoc, inl, inr, zero-lt-suc, div-le_self, le-div_iff_mul-le, arith, length-append, take-append-drop}
+use Rattle.std.proofs.Math.Nat.{zero-div, zero-mod, sub-zero, div-eq_of_lt, div-lt_self}
 use Rattle.std.specs.Int.Digits.{digits_of, number_from_digits, number_from_digits_after, AllBelowBase}
-use Rattle.std.proofs.lemmas.Int.Digits.{digits_of_step, length-digits_of_step, length-digits_of-le, number_digits_of, number_lt, all_below_base_digits_of}
-use Rattle.std.proofs.ByRecursion.{All-append}
-use Rattle.std.proofs.lemmas.List.{replicate_more, append-nil, take_more, map-append, length-map, length-replicate}
+use Rattle.std.proofs.lemmas.Int.Digits.{digits_of_step, length-digits_of_step, length-digits_of-le, number_digits_of, number_after_append, number_after_ge, number_more, number_push, all_below_base_digits_of}
+use Rattle.std.proofs.ByRecursion.{All-append, All-get_or, All-push}
+use Rattle.std.proofs.lemmas.List.{replicate_more, append-nil, take_more, take-map, get_or-map, map-append, length-map, length-replicate}
 use Rattle.std.proofs.lemmas.Bool.Decides.{nat_tests}
-use Rattle.kinds.specs.Digits.{glyph_of, value_of, padded, spelled}
+use Rattle.kinds.specs.declared.digits.Base.{Base}
+use Rattle.kinds.specs.declared.digits.Base.TheVariants.{Ten, Sixteen}
+use Rattle.kinds.specs.Digits.{radix_of, glyph_of, padded, spelled, Spells}
+
+pub two_digits : (base : Base) → 2 ≤ radix_of base
+two_digits Ten = omega arith
+two_digits Sixteen = omega arith
 
 -- ---- one digit more
 
@@ -87,44 +93,76 @@ spelled_short b w n h some under =
 
 -- ---- back from digits
 
-value_glyph : (d : ℕ) → value_of (glyph_of d) ≡ d
-value_glyph d = grind (arith, nat_tests)
+glyph_one : (c d : ℕ) → glyph_of c ≡ glyph_of d → c ≡ d
+glyph_one c d e = grind (arith, nat_tests)
 
-values : (ds : List ℕ) → map value_of (map glyph_of ds) ≡ ds
-values [] = refl
-values (d ∷ ds) =
-    ap (λ (x : ℕ). x ∷ map value_of (map glyph_of ds)) (value_glyph d) ∙ ap (λ (l : List ℕ). d ∷ l) (values ds)
+-- digits that look alike are one
+pub same_digits : (cs ds : List ℕ) → map glyph_of cs ≡ map glyph_of ds → cs ≡ ds
+same_digits [] [] e = refl
+same_digits [] (d ∷ ds) e = absurd (omega (arith, ap length e))
+same_digits (c ∷ cs) [] e = absurd (omega (arith, ap length e))
+same_digits (c ∷ cs) (d ∷ ds) e =
+    ap₂ (λ (x : ℕ) (l : List ℕ). x ∷ l) (glyph_one c d (ap (λ (l : List ℕ). slice_index l 0) e)) (same_digits cs ds (ap (drop 1) e))
 
 zeros : (b k : ℕ) (ds : List ℕ) → number_from_digits b (replicate k 0 ++ ds) ≡ number_from_digits b ds
 zeros b zero ds = refl
 zeros b (suc k) ds = let z : 0 * b + 0 ≡ 0 = omega arith in ap (λ (n : ℕ). number_from_digits_after b n (replicate k 0 ++ ds)) z ∙ zeros b k ds
 
-pub number_spelled : (b w n : ℕ) → 2 ≤ b → number_from_digits b (map value_of (spelled b w n)) ≡ n
-number_spelled b w n h = ap (number_from_digits b) (values (padded b w n)) ∙ zeros b (w - length (digits_of b n)) (digits_of b n) ∙ number_digits_of b n h
+number_padded : (b w n : ℕ) → 2 ≤ b → number_from_digits b (padded b w n) ≡ n
+number_padded b w n h = zeros b (w - length (digits_of b n)) (digits_of b n) ∙ number_digits_of b n h
 
 under_zeros : (b k : ℕ) → 2 ≤ b → AllBelowBase b (replicate k 0)
 under_zeros b zero h = tt
 under_zeros b (suc k) h = (omega arith, under_zeros b k h)
 
--- each glyph of a spelled number is a digit in the base
-pub under_spelled : (b w n : ℕ) → 2 ≤ b → AllBelowBase b (map value_of (spelled b w n))
-under_spelled b w n h =
-    subst (λ (l : List ℕ). AllBelowBase b l) (sym (values (padded b w n)))
-    (All-append (λ d. d < b) (replicate (w - length (digits_of b n)) 0) (digits_of b n) (under_zeros b (w - length (digits_of b n)) h) (all_below_base_digits_of b n h))
+-- a number is spelled by its digits
+pub spells : (b w n : ℕ) → 2 ≤ b → Spells b (spelled b w n) n
+spells b w n h =
+    record {
+      digits = padded b w n;
+      below = All-append (λ d. d < b) (replicate (w - length (digits_of b n)) 0) (digits_of b n) (under_zeros b (w - length (digits_of b n)) h) (all_below_base_digits_of b n h);
+      glyphs = refl;
+      number = number_padded b w n h;
+    }
+
+-- and one text spells one number
+pub spells_one : (b : ℕ) (bs : List ℕ) (m n : ℕ) → Spells b bs m → Spells b bs n → m ≡ n
+spells_one b bs m n p q =
+    sym p.number ∙ ap (number_from_digits b) (same_digits p.digits q.digits (p.glyphs ∙ sym q.glyphs)) ∙ q.number
 
 pub same_from_spelled : (b w m n : ℕ) → 2 ≤ b → spelled b w m ≡ spelled b w n → m ≡ n
 same_from_spelled b w m n h e =
-    sym (number_spelled b w m h) ∙ ap (λ (l : List ℕ). number_from_digits b (map value_of l)) e ∙ number_spelled b w n h
+    sym (number_padded b w m h) ∙ ap (number_from_digits b) (same_digits (padded b w m) (padded b w n) e) ∙ number_padded b w n h
 
 -- ---- reading digits from the first on
 
--- eight digits write a number of at most 32 bits
-pub digits_fit : (b : ℕ) (ds : List ℕ) → b ≤ 16 → length ds ≤ 8 → AllBelowBase b ds → number_from_digits b ds < 2 ^ 32
-digits_fit b ds base few under =
-    let wide : b ^ length ds ≤ 16 ^ length ds = pow-le-pow_left base (length ds) in
-    let top : 16 ^ length ds ≤ 16 ^ 8 = pow-le-pow_right (omega arith) few in
-    let is : 16 ^ 8 ≡ 2 ^ 32 = refl in
-    omega (arith, number_lt b ds under)
+-- the next digit of a text that spells a number, and how far the number so far comes with it
+pub next_digit : (b : ℕ) (bs : List ℕ) (i so_far n : ℕ) → 0 < b → i < length bs → Spells b (take i bs) so_far → Spells b bs n → (d : ℕ) × (d < b) × (glyph_of d ≡ slice_index bs i) × (so_far * b + d ≤ n)
+next_digit b bs i so_far n some lt front whole =
+    let ds = whole.digits in
+    let long : length ds ≡ length bs = sym (length-map ds glyph_of) ∙ ap length whole.glyphs in
+    let inside : i < length ds = omega arith in
+    let first : front.digits ≡ take i ds = same_digits front.digits (take i ds) (front.glyphs ∙ sym (ap (take i) whole.glyphs) ∙ take-map glyph_of i ds) in
+    let is : number_from_digits b (take i ds) ≡ so_far = ap (number_from_digits b) (sym first) ∙ front.number in
+    let more : number_from_digits b (take (i + 1) ds) ≡ so_far * b + slice_index ds i = number_more b ds i inside ∙ ap (λ (k : ℕ). k * b + slice_index ds i) is in
+    let all : number_from_digits_after b (number_from_digits b (take (i + 1) ds)) (drop (i + 1) ds) ≡ n =
+    sym (number_after_append b 0 (take (i + 1) ds) (drop (i + 1) ds)) ∙ ap (number_from_digits b) (take-append-drop (i + 1) ds) ∙ whole.number in (
+      slice_index ds i,
+      All-get_or (λ d. d < b) ds i 0 inside whole.below,
+      sym (get_or-map glyph_of ds i 0 0 inside) ∙ ap (λ (l : List ℕ). slice_index l i) whole.glyphs,
+      omega (arith, number_after_ge b (number_from_digits b (take (i + 1) ds)) (drop (i + 1) ds) some),
+    )
 
-pub value_more : (bs : List ℕ) (i : ℕ) → i < length bs → map value_of (take (i + 1) bs) ≡ map value_of (take i bs) ++ (value_of (slice_index bs i) ∷ [])
-value_more bs i lt = ap (map value_of) (take_more bs i 0 lt) ∙ map-append value_of (take i bs) (slice_index bs i ∷ [])
+-- one digit more is read
+pub spells_more : (b : ℕ) (bs : List ℕ) (i so_far d : ℕ) → i < length bs → Spells b (take i bs) so_far → d < b → glyph_of d ≡ slice_index bs i → Spells b (take (i + 1) bs) (so_far * b + d)
+spells_more b bs i so_far d lt front under is =
+    record {
+      digits = front.digits ++ d ∷ [];
+      below = All-push (λ x. x < b) front.digits d front.below under;
+      glyphs =
+          map-append glyph_of front.digits (d ∷ [])
+          ∙ ap (λ (l : List ℕ). l ++ glyph_of d ∷ []) front.glyphs
+          ∙ ap (λ (x : ℕ). take i bs ++ x ∷ []) is
+          ∙ sym (take_more bs i 0 lt);
+      number = number_push b front.digits d ∙ ap (λ (k : ℕ). k * b + d) front.number;
+    }

@@ -10,6 +10,7 @@
 --   Kept t         what every label that is made keeps
 --   Made t         that making gives t
 use Rattle.std.specs.Prelude.{◌≡◌, ℕ, zero, suc, ◌-◌, ◌≤◌, Bool, true, false, cond, ◌&&◌, ◌||◌, List, [], ◌∷◌, ◌++◌, length, replicate, Ok, Err, Result, ◌==◌, nat_le}
+use Rattle.std.specs.List.{list_all}
 use Rattle.kinds.specs.declared.refusal.Refusal.{Refusal}
 use Rattle.kinds.specs.declared.refusal.Refusal.TheVariants.{Text}
 use Rattle.kinds.specs.declared.text.TextLabel.{TextLabel}
@@ -40,12 +41,8 @@ abbrev pub house : ℕ → Bool
 house b =
     between 65 90 b || (between 97 122 b || (between 48 57 b || (b == 45 || (b == 46 || (b == 95 || b == 47)))))
 
-abbrev pub all_house : List ℕ → Bool
-all_house [] = true
-all_house (b ∷ bs) = house b && all_house bs
-
 abbrev pub legal : List ℕ → Bool
-legal bs = nat_le 1 (length bs) && (nat_le (length bs) 16 && all_house bs)
+legal bs = nat_le 1 (length bs) && (nat_le (length bs) 16 && list_all house bs)
 
 abbrev pub label_of : List ℕ → TextLabel
 label_of bs = record { bytes = bs ++ replicate (16 - length bs) 0 }
@@ -56,7 +53,7 @@ making bs = cond (legal bs) (Ok (label_of bs)) (Err Text)
 pub record Kept (t : TextLabel) : Type 0 where
   pub some : 1 ≤ length (bytes_of t)
   pub few : length (bytes_of t) ≤ 16
-  pub letters : all_house (bytes_of t) ≡ true
+  pub letters : list_all house (bytes_of t) ≡ true
   pub padded : t.bytes ≡ bytes_of t ++ replicate (16 - length (bytes_of t)) 0
 
 abbrev pub Made : TextLabel → Type 0

@@ -3,6 +3,7 @@ ghost use Rattle.std.specs.Prelude.{◌≡◌};
 ghost use Rattle.kinds.specs.Texts.{house};
 
 // For each byte whether it is in the alphabet.
+// Kept as a table: it is a rule here that a test of a byte looks it up in a constant table.
 const HOUSE: [bool; 256] = [
     // 0x00 to 0x0F: none
     false, false, false, false, false, false, false, false, false, false, false, false, false,
@@ -58,5 +59,5 @@ const HOUSE: [bool; 256] = [
 pub fn in_house(byte: u8) -> bool
     ensures { result ≡ house byte }
 {
-    HOUSE[byte as usize]
+    HOUSE[usize::from(byte)]
 }

@@ -8,12 +8,7 @@ use crate::label::Label;
 pub fn lowest_same<L: Label>(labels: &[L], label: &L) -> Option<usize>
     ensures { LowestSame (map L.meaning labels.now) (L.meaning label.now) result }
 {
-    for (i, other) in labels.iter().enumerate() {
-        if other.same(label) {
-            return Some(i);
-        }
-    }
-    None
+    labels.iter().position(|other| other.same(label))
 }
 
 // Writes for each label the lowest index of a label that is the same. A table that is too short
@@ -26,10 +21,10 @@ pub fn class_numbers<L: Label>(labels: &[L], classes: &mut [usize]) -> bool
     if classes.len() < labels.len() {
         return false;
     }
-    for i in 0..labels.len() {
-        let label = labels[i];
+    // Written by index: a proof knows nothing of a slice after a loop over `iter_mut().zip(..)`.
+    for (i, label) in labels.iter().enumerate() {
         // A label is the same as itself, so there is one.
-        classes[i] = lowest_same(labels, &label).unwrap_or(i);
+        classes[i] = lowest_same(labels, label).unwrap_or(i);
     }
     true
 }

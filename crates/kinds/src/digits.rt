@@ -1,10 +1,16 @@
 // Numbers written as digits, and read back.
-ghost use Rattle.std.specs.Prelude.{◌≡◌, ℕ, ◌+◌, ◌<◌, ◌≤◌, map, length, MatchOption};
-ghost use Rattle.std.specs.Int.Digits.{AllBelowBase, number_from_digits as number_of};
+ghost use Rattle.std.specs.Prelude.{◌≡◌, ℕ, ◌+◌, ◌*◌, ◌^◌, ◌<◌, ◌≤◌, length, MatchOption, ◌≢◌};
 ghost use Rattle.bounded.specs.Lists.{held, room, Appended};
-ghost use Rattle.kinds.specs.Digits.{glyph_of, value_of, spelled};
+ghost use Rattle.kinds.specs.Digits.{radix_of, glyph_of, spelled, Spells};
 
 use bounded::list::Bounded;
+
+// A base that numbers are written in.
+#[derive(Clone, Copy, Debug, PartialEq, Eq, Hash)]
+pub(crate) enum Base {
+    Ten = 10,
+    Sixteen = 16,
+}
 
 // The byte of a digit: 0 to 9, then A to F.
 fn glyph(digit: u32) -> u8
@@ -18,43 +24,63 @@ fn glyph(digit: u32) -> u8
     }
 }
 
-// Puts the digits of `n` at the end of the list, with zeros in front of fewer than `width`.
-pub(crate) fn append_digits(list: &mut Bounded<u8>, base: u32, width: usize, n: u32)
-    requires base { (2 ≤ base) × (base ≤ 16) }
-    requires some { 1 ≤ width }
-    requires room { length (held list.old) + length (spelled base width n) ≤ room list.old }
-    ensures { Appended list.old list.new (spelled base width n) }
+// The digit that a byte is the glyph of, if it is one.
+fn value(byte: u8) -> Option<u32>
+    ensures { MatchOption result ((d : ℕ) → d < 16 → glyph_of d ≢ byte) (λ d. (d < 16) × (glyph_of d ≡ byte)) }
 {
-    if 1 < width || base <= n {
-        append_digits(list, base, (width - 1).max(1), n / base);
-    }
-    let _ = list.append(glyph(n % base));
-}
-
-// The digit that a byte is the glyph of; a byte that is none gives some number.
-fn value(byte: u8) -> u64
-    ensures { result ≡ value_of byte }
-{
-    if byte < 58 {
-        byte.saturating_sub(48) as u64
-    } else {
-        (byte - 55) as u64
+    match byte {
+        b'0'..=b'9' => Some(u32::from(byte - b'0')),
+        b'A'..=b'F' => Some(u32::from(byte - b'A') + 10),
+        _ => None,
     }
 }
 
-// The number that at most eight digits write, or none where a byte is no digit in the base.
-pub(crate) fn read_digits(bytes: &[u8], base: u64) -> Option<u32>
-    requires base { (2 ≤ base) × (base ≤ 16) }
-    requires few { length bytes.now ≤ 8 }
-    ensures { MatchOption result (AllBelowBase base (map value_of bytes.now) → ⊥) (λ n. n ≡ number_of base (map value_of bytes.now)) }
-{
-    let mut n = 0u64;
-    for byte in bytes {
-        let digit = value(*byte);
-        if base <= digit {
-            return None;
+impl Base {
+    // How many digits the base has.
+    fn radix(self) -> u32
+        ensures { result ≡ radix_of self }
+    {
+        self as u32
+    }
+
+    // The digit of the base that a byte is the glyph of, if it is one.
+    fn digit(self, byte: u8) -> Option<u32>
+        ensures { MatchOption result ((d : ℕ) → d < radix_of self → glyph_of d ≢ byte) (λ d. (d < radix_of self) × (glyph_of d ≡ byte)) }
+    {
+        value(byte).filter(|&digit| digit < self.radix())
+    }
+
+    // The number `n` with this digit after it, where the byte is a digit and 32 bits hold the number.
+    fn followed_by(self, n: u32, byte: u8) -> Option<u32>
+        ensures { MatchOption result
+            ((d : ℕ) → d < radix_of self → glyph_of d ≡ byte → 2 ^ 32 ≤ n * radix_of self + d)
+            (λ m. (d : ℕ) × (d < radix_of self) × (glyph_of d ≡ byte) × (m ≡ n * radix_of self + d)) }
+    {
+        n.checked_mul(self.radix())?.checked_add(self.digit(byte)?)
+    }
+
+    // Puts the digits of `n` at the end of the list, with zeros in front of fewer than `width`.
+    pub(crate) fn append(self, list: &mut Bounded<u8>, width: usize, n: u32)
+        requires some { 1 ≤ width }
+        requires room { length (held list.old) + length (spelled (radix_of self) width n) ≤ room list.old }
+        ensures { Appended list.old list.new (spelled (radix_of self) width n) }
+    {
+        let radix = self.radix();
+        if 1 < width || radix <= n {
+            self.append(list, (width - 1).max(1), n / radix);
         }
-        n = n * base + digit;
+        let _ = list.append(glyph(n % radix));
     }
-    Some(n as u32)
+
+    // The number that these digits write; none where a byte is no digit of the base, or where 32
+    // bits do not hold the number.
+    pub(crate) fn read(self, digits: &[u8]) -> Option<u32>
+        ensures { MatchOption result ((n : ℕ) → n < 2 ^ 32 → Spells (radix_of self) digits.now n → ⊥) (Spells (radix_of self) digits.now) }
+    {
+        let mut n = 0u32;
+        for &byte in digits {
+            n = self.followed_by(n, byte)?;
+        }
+        Some(n)
+    }
 }

@@ -4,6 +4,7 @@
 pub mod alphabet;
 pub mod classes;
 pub mod digits;
+pub mod field;
 pub mod filed;
 pub mod label;
 pub mod refusal;

@@ -1,13 +1,16 @@
 // Why a label was not made.
-ghost use Rattle.std.specs.Prelude.{◌≡◌};
+ghost use Rattle.std.specs.Prelude.{◌≡◌, Some as Prints};
+ghost use Rattle.std.specs.Fmt.{decimal};
 ghost use Rattle.kinds.specs.Refusals.{number_of};
 
-#[derive(Clone, Copy, Debug, PartialEq)]
+use std::fmt;
+
+#[derive(Clone, Copy, Debug, PartialEq, Eq, Hash)]
 pub enum Refusal {
     // A text of another length, or with a byte outside the alphabet.
-    Text,
+    Text = 24,
     // A value outside its sort's range, or a text that is no setting's.
-    Setting,
+    Setting = 25,
 }
 
 impl Refusal {
@@ -15,9 +18,15 @@ impl Refusal {
     pub fn number(self) -> u8
         ensures { result ≡ number_of self }
     {
-        match self {
-            Refusal::Text => 24,
-            Refusal::Setting => 25,
-        }
+        self as u8
+    }
+}
+
+// A refusal is printed as its number.
+impl fmt::Display for Refusal {
+    ghost output = { λ refusal. Prints (decimal (number_of refusal)) };
+
+    fn fmt<W: fmt::Write>(&self, f: &mut fmt::Formatter<W>) -> fmt::Result {
+        write!(f, "{}", self.number())
     }
 }

@@ -1,13 +1,12 @@
 // Setting labels: seconds, metres, a count or a mark.
-ghost use Rattle.std.specs.Prelude.{◌≡◌, ℕ, ◌+◌, ◌≤◌, ◌∷◌, length, Decides, ◌==◌, to_bits};
+ghost use Rattle.std.specs.Prelude.{◌≡◌, ◌+◌, ◌≤◌, length, IfSome, Decides, ◌==◌, to_bits};
 ghost use Rattle.std.specs.Float.{binary32};
 ghost use Rattle.bounded.specs.Lists.{held, room, Appended};
 ghost use Rattle.kinds.specs.declared.refusal.Refusal.TheVariants.{Setting as SettingRefused};
-ghost use Rattle.kinds.specs.Digits.{spelled};
-ghost use Rattle.kinds.specs.Settings.{Meant, meant_by, meant, alike_meant, inside, legal, making, text_of, setting_text, Reads, Holds, Made};
+ghost use Rattle.kinds.specs.Settings.{Meant, meant_by, meant, alike_meant, inside, legal, making, text_of, setting_text, Holds, Made};
 ghost use Rattle.kinds.specs.SettingTexts.{setting_tied, settings_exact};
 
-use crate::digits::{append_digits, read_digits};
+use crate::field::Field;
 use crate::filed::{FiledLabel, TEXT_SIZE};
 use crate::label::Label;
 use crate::refusal::Refusal;
@@ -36,15 +35,15 @@ fn in_range(x: f32) -> bool
     0.0 <= x && x <= 9999.0
 }
 
-// Whether the value is in its sort's range.
-fn is_legal(setting: Setting) -> bool
-    ensures { result ≡ legal setting }
-{
-    match setting {
-        Setting::Seconds(x) => in_range(x),
-        Setting::Metres(x) => in_range(x),
-        Setting::Count(_) => true,
-        Setting::Mark => true,
+impl Setting {
+    // Whether the value is in its sort's range.
+    fn is_legal(self) -> bool
+        ensures { result ≡ legal self }
+    {
+        match self {
+            Setting::Seconds(x) | Setting::Metres(x) => in_range(x),
+            Setting::Count(_) | Setting::Mark => true,
+        }
     }
 }
 
@@ -53,7 +52,7 @@ impl SettingLabel {
     pub fn make(setting: Setting) -> Result<SettingLabel, Refusal>
         ensures { result ≡ making setting }
     {
-        if is_legal(setting) {
+        if setting.is_legal() {
             Ok(SettingLabel { setting })
         } else {
             Err(Refusal::Setting)
@@ -88,60 +87,34 @@ impl Label for SettingLabel {
     }
 }
 
-// Puts a letter, a colon and the digits of `n` at the end of the list.
-fn append_field(list: &mut Bounded<u8>, letter: u8, base: u32, width: usize, n: u32)
-    requires base { (2 ≤ base) × (base ≤ 16) }
-    requires some { 1 ≤ width }
-    requires room { length (held list.old) + (2 + length (spelled base width n)) ≤ room list.old }
-    ensures { Appended list.old list.new (letter ∷ 58 ∷ spelled base width n) }
-{
-    let _ = list.append(letter);
-    let _ = list.append(b':');
-    append_digits(list, base, width, n);
-}
-
 // Puts the text of a setting at the end of the list.
+#[tactic(auto, using(crate::specs::SettingTexts::pattern_long, crate::specs::SettingTexts::count_short))]
 fn append_text(list: &mut Bounded<u8>, setting: Setting)
     requires { length (held list.old) + 10 ≤ room list.old }
     ensures text { Appended list.old list.new (text_of (meant_by setting)) }
     ensures short { length (text_of (meant_by setting)) ≤ 10 }
 {
     match setting {
-        Setting::Seconds(x) => append_field(list, b'S', 16, 8, f32_to_bits_with_nan(x)),
-        Setting::Metres(x) => append_field(list, b'L', 16, 8, f32_to_bits_with_nan(x)),
-        Setting::Count(n) => append_field(list, b'C', 10, 1, n as u32),
+        Setting::Seconds(x) => Field::SECONDS.append(list, f32_to_bits_with_nan(x)),
+        Setting::Metres(x) => Field::METRES.append(list, f32_to_bits_with_nan(x)),
+        Setting::Count(n) => Field::COUNT.append(list, u32::from(n)),
         Setting::Mark => {
             let _ = list.append(b'M');
         }
     }
 }
 
-// The number in a text that is the letter, a colon and the number's digits; of another text some
-// number or none.
-fn field(bytes: &[u8], letter: u8, base: u64) -> Option<u32>
-    requires { (2 ≤ base) × (base ≤ 16) }
-    ensures { Reads bytes.now letter base result }
+// The setting whose text this can be, or none where it is no setting's.
+fn likely(bytes: &[u8]) -> Option<Setting>
+    ensures finds { (v : Setting) → Holds v → text_of (meant_by v) ≡ bytes.now → result ≡ Some v }
+    ensures holds { IfSome result Holds }
 {
-    if bytes.len() < 2 || 10 < bytes.len() || bytes[0] != letter {
-        return None;
-    }
-    read_digits(&bytes[2..], base)
-}
-
-// The setting whose text this is, if there is one; of another text some setting.
-fn likely(bytes: &[u8]) -> Setting
-    ensures finds { (v : Setting) → Holds v → text_of (meant_by v) ≡ bytes.now → result ≡ v }
-    ensures holds { Holds result }
-{
-    if let Some(pattern) = field(bytes, b'S', 16) {
-        return Setting::Seconds(f32_from_bits_with_nan(pattern));
-    }
-    if let Some(pattern) = field(bytes, b'L', 16) {
-        return Setting::Metres(f32_from_bits_with_nan(pattern));
-    }
-    match field(bytes, b'C', 10) {
-        Some(count) if count <= 65535 => Setting::Count(count as u16),
-        _ => Setting::Mark,
+    match bytes.first()? {
+        b'S' => Some(Setting::Seconds(f32_from_bits_with_nan(Field::SECONDS.read(bytes)?))),
+        b'L' => Some(Setting::Metres(f32_from_bits_with_nan(Field::METRES.read(bytes)?))),
+        b'C' => Some(Setting::Count(u16::try_from(Field::COUNT.read(bytes)?).ok()?)),
+        b'M' => Some(Setting::Mark),
+        _ => None,
     }
 }
 
@@ -154,6 +127,7 @@ impl FiledLabel for SettingLabel {
 
     ghost tied = { setting_tied };
 
+    #[tactic(auto, using(crate::proofs::Buffers::listed, crate::specs::SettingTexts::setting_tied))]
     fn write_text(&self, out: &mut [u8]) -> Option<usize> {
         if out.len() < TEXT_SIZE {
             return None;
@@ -164,11 +138,11 @@ impl FiledLabel for SettingLabel {
     }
 
     // A text is a label's exactly if it is the text of the label that it is likely to be of.
+    #[tactic(auto, using(crate::specs::SettingTexts::setting_tied))]
     fn read_text(bytes: &[u8]) -> Result<SettingLabel, Refusal> {
-        let label = SettingLabel {
-            setting: likely(bytes),
-        };
-        if is_legal(label.setting) && has_text(label, bytes) {
+        let setting = likely(bytes).ok_or(Refusal::Setting)?;
+        let label = SettingLabel::make(setting)?;
+        if has_text(label, bytes) {
             Ok(label)
         } else {
             Err(Refusal::Setting)
@@ -182,7 +156,7 @@ fn has_text(label: SettingLabel, bytes: &[u8]) -> bool
 {
     let mut written = [0u8; TEXT_SIZE];
     match label.write_text(&mut written) {
-        Some(len) => &written[0..len] == bytes,
+        Some(len) => &written[..len] == bytes,
         None => false,
     }
 }

@@ -1,6 +1,6 @@
 // Text labels: 1 to 16 bytes of the house alphabet.
-ghost use Rattle.std.specs.Prelude.{◌≡◌, ℕ, ◌≤◌, List, take, IfOk};
-ghost use Rattle.kinds.specs.Texts.{trimmed, bytes_of, equal, making, Kept, Made};
+ghost use Rattle.std.specs.Prelude.{◌≡◌, ℕ, ◌≤◌, List, length, IfOk};
+ghost use Rattle.kinds.specs.Texts.{trimmed, bytes_of, equal, legal, making, Kept, Made};
 ghost use Rattle.kinds.specs.declared.refusal.Refusal.TheVariants.{Text as TextRefused};
 ghost use Rattle.kinds.specs.Trims.{equal_exact, text_tied};
 
@@ -13,9 +13,16 @@ use crate::refusal::Refusal;
 const LONGEST: usize = 16;
 
 // Sixteen bytes; the label's are those before the zeros at the end.
-#[derive(Clone, Copy, Debug, PartialEq)]
+#[derive(Clone, Copy, Debug, PartialEq, Eq, Hash)]
 pub struct TextLabel {
-    pub bytes: [u8; 16],
+    pub bytes: [u8; LONGEST],
+}
+
+// Whether a text is a label's: its length is right, and its bytes are in the alphabet.
+fn is_legal(text: &[u8]) -> bool
+    ensures { result ≡ legal text.now }
+{
+    (1..=LONGEST).contains(&text.len()) && text.iter().all(|&byte| in_house(byte))
 }
 
 impl TextLabel {
@@ -25,17 +32,25 @@ impl TextLabel {
         ensures means { IfOk result (λ t. bytes_of t ≡ text.now) }
         ensures kept { IfOk result Kept }
     {
-        if text.len() == 0 || LONGEST < text.len() {
+        if !is_legal(text) {
             return Err(Refusal::Text);
         }
-        let mut bytes = [0u8; 16];
-        for (i, byte) in text.iter().enumerate() {
-            if !in_house(*byte) {
-                return Err(Refusal::Text);
-            }
-            bytes[i] = *byte;
-        }
+        let mut bytes = [0u8; LONGEST];
+        bytes[..text.len()].copy_from_slice(text);
         Ok(TextLabel { bytes })
+    }
+
+    // The bytes before the zeros at the end.
+    fn text(&self) -> &[u8]
+        ensures value { result.now ≡ bytes_of self.now }
+        ensures bound { length result.now ≤ 16 }
+    {
+        let len = self
+            .bytes
+            .iter()
+            .rposition(|&byte| byte != 0)
+            .map_or(0, |last| last + 1);
+        &self.bytes[..len]
     }
 }
 
@@ -54,18 +69,6 @@ impl Label for TextLabel {
     }
 }
 
-// How many bytes stand before the zeros at the end.
-fn used(bytes: &[u8; 16]) -> usize
-    ensures bound { result ≤ 16 }
-    ensures front { take result bytes.now ≡ trimmed bytes.now }
-{
-    let mut n: usize = 16;
-    while 0 < n && bytes[n - 1] == 0 {
-        n -= 1;
-    }
-    n
-}
-
 impl FiledLabel for TextLabel {
     ghost text = { bytes_of };
 
@@ -79,11 +82,9 @@ impl FiledLabel for TextLabel {
         if out.len() < TEXT_SIZE {
             return None;
         }
-        let len = used(&self.bytes);
-        for i in 0..len {
-            out[i] = self.bytes[i];
-        }
-        Some(len)
+        let text = self.text();
+        out[..text.len()].copy_from_slice(text);
+        Some(text.len())
     }
 
     // A label's text is what it is made of.

@@ -5,4 +5,4 @@ use Rattle.kinds.proofs.alphabet.in_house.Goals as goal
 
 -- the table is the list of what the rule says at each byte: antt computes both
 pub returns : goal.returns
-returns c = get_or-map-range_with_len house 0 256 c.args.byte c.args.byte false c.ranges.byte.fits (omega arith)
+returns c = rw c.from.ensures (get_or-map-range_with_len house 0 256 c.args.byte c.args.byte false c.ranges.byte.fits (omega arith))

@@ -1,4 +1,4 @@
-use Rattle.std.proofs.Common.{◌<◌, ◌≢◌, map, length, get_or, set, ◌∙◌, arith, get_or-set_other, get_or-set_same, rules, below_more}
+use Rattle.std.proofs.Common.{◌<◌, ◌≢◌, map, length, get_or, set, ◌∙◌, arith, get_or-set_other, get_or-set_same, below_more}
 use lib.ListN.{length-map}
 use Rattle.std.proofs.lemmas.List.{drop-set-lt}
 use Rattle.kinds.specs.Classes.{Class}
@@ -20,7 +20,3 @@ loop-i-preserved g c =
           (rw get_or-set_same here),
       drop-set-lt (length xs) out i _ c.loop-i-test.true ∙ c.loop-i.invariant.1,
     )
-
-pub returns : goal.returns
-returns g c =
-    record { value = search rules; after = λ i h. c.loop-i.invariant.0 i (omega (arith, rw length-map at h)); rest = c.loop-i.invariant.1 }

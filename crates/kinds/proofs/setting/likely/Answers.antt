@@ -1,35 +1,60 @@
-use Rattle.std.proofs.Common.{◌≡◌, ℕ, ◌<◌, Some, None, refl, ap, ◌∙◌, arith, rules}
-use lib.Ieee.{Float}
-use Rattle.kinds.specs.declared.setting.Setting.TheVariants.{Seconds, Metres}
-use Rattle.kinds.specs.SettingTexts.{at_seconds, at_metres, at_count, at_mark, some_same, none_some}
+use Rattle.std.proofs.Common.{◌≡◌, ℕ, ◌<◌, Some, Ok, Err, Result, slice_index, refl, ap, arith}
+use Rattle.std.specs.Result.{OkIff, result_ok}
+use Rattle.std.proofs.lemmas.Grind.{common_steps}
+use Rattle.kinds.proofs.Likely.{at_seconds, at_metres, at_count}
 use Rattle.kinds.proofs.setting.likely.Goals as goal
 
-pub returns-in-Some : goal.returns-in-Some
-returns-in-Some c =
-    record {
-      finds = λ v h e. ap (λ (x : Float). Seconds x) c.f32_from_bits_with_nan.ensures ∙ at_seconds c.args.bytes.now _ c.in-Some.pattern c.field.ensures c.in-Some.is v h e;
-      holds = search rules;
-    }
+pub returns-in_err-read-in-83-clause-finds : goal.returns-in_err-read-in-83-clause-finds
+returns-in_err-read-in-83-clause-finds c =
+    let bs = c.args.bytes.now in
+    let is : slice_index bs 0 ≡ 83 = grind (arith, common_steps) in
+    λ v h e. let s = at_seconds _ (λ n. refl) bs c.read.result c.read.ensures is v h e in cc (c.in_err-read-in-83.was, s.1)
 
-pub returns-in-Some-field : goal.returns-in-Some-field
-returns-in-Some-field c =
-    record {
-      finds = λ v h e. ap (λ (x : Float). Metres x) c.f32_from_bits_with_nan-in-Some-field.ensures ∙ at_metres c.args.bytes.now _ c.in-Some-field.pattern c.field-2.ensures c.in-Some-field.is v h e;
-      holds = search rules;
-    }
+pub returns-in_ok-read-in-83-clause-finds : goal.returns-in_ok-read-in-83-clause-finds
+returns-in_ok-read-in-83-clause-finds c =
+    let bs = c.args.bytes.now in
+    let is : slice_index bs 0 ≡ 83 = grind (arith, common_steps) in
+    λ v h e. let s = at_seconds _ (λ n. refl) bs c.read.result c.read.ensures is v h e in cc (c.in_ok-read-in-83.was, s.1, s.2)
 
-pub returns-in-Some-field-2 : goal.returns-in-Some-field-2
-returns-in-Some-field-2 c =
-    record {
-      finds = λ v h e. at_count c.args.bytes.now _ c.in-Some-field-2.count c.field-3.ensures c.in-Some-field-2.is v h e;
-      holds = omega arith;
-    }
+pub returns-in_err-read-in-76-clause-finds : goal.returns-in_err-read-in-76-clause-finds
+returns-in_err-read-in-76-clause-finds c =
+    let bs = c.args.bytes.now in
+    let is : slice_index bs 0 ≡ 76 = grind (arith, common_steps) in
+    λ v h e. let s = at_metres _ (λ n. refl) bs c.read-in-76.result c.read-in-76.ensures is v h e in cc (c.in_err-read-in-76.was, s.1)
 
-pub returns-in_default-field-2 : goal.returns-in_default-field-2
-returns-in_default-field-2 c =
-    let over : (n : ℕ) → n < 65536 → c.field-3.result ≡ Some n → ⊥ = λ n h is. (omega (arith, some_same c.field-3.result n c.in-Some-field-2.count is c.in-Some-field-2.is)) in
-    record { finds = at_mark c.args.bytes.now _ _ _ c.field.ensures c.field-2.ensures c.field-3.ensures c.in_default.is c.in_default-field.is over; holds = tt }
+pub returns-in_ok-read-in-76-clause-finds : goal.returns-in_ok-read-in-76-clause-finds
+returns-in_ok-read-in-76-clause-finds c =
+    let bs = c.args.bytes.now in
+    let is : slice_index bs 0 ≡ 76 = grind (arith, common_steps) in
+    λ v h e. let s = at_metres _ (λ n. refl) bs c.read-in-76.result c.read-in-76.ensures is v h e in cc (c.in_ok-read-in-76.was, s.1, s.2)
 
-pub returns-in_default-field-2-2 : goal.returns-in_default-field-2-2
-returns-in_default-field-2-2 c =
-    record { finds = at_mark c.args.bytes.now _ _ None c.field.ensures c.field-2.ensures c.in_default-field-2.ensures c.in_default.is c.in_default-field.is (λ n h is. none_some None n refl is); holds = tt }
+pub returns-in_err-read-in-67-clause-finds : goal.returns-in_err-read-in-67-clause-finds
+returns-in_err-read-in-67-clause-finds c =
+    let bs = c.args.bytes.now in
+    let is : slice_index bs 0 ≡ 67 = grind (arith, common_steps) in
+    λ v h e. let s = at_count _ (λ n. refl) bs c.read-in-67.result c.read-in-67.ensures is v h e in cc (c.in_err-read-in-67.was, s.2)
+
+-- a number that fits a count is converted to it
+converted : {E : Type 0} (r : Result ℕ E) (n : ℕ) → OkIff r (n < 65536) n → n < 65536 → result_ok r ≡ Some n
+converted (Ok m) n said fits = ap (λ (k : ℕ). Some k) said.1
+converted (Err e) n said fits = absurd (said fits)
+
+pub returns-in_err-ok-in-67-clause-finds : goal.returns-in_err-ok-in-67-clause-finds
+returns-in_err-ok-in-67-clause-finds c =
+    let bs = c.args.bytes.now in
+    let is : slice_index bs 0 ≡ 67 = grind (arith, common_steps) in
+    λ v h e.
+    let s = at_count _ (λ n. refl) bs c.read-in-67.result c.read-in-67.ensures is v h e in
+    let n : c.in_ok-read-in-67.field-0 ≡ s.0 = cc (c.in_ok-read-in-67.was, s.2) in
+    let fits : c.in_ok-read-in-67.field-0 < 65536 = omega (arith, s.1) in
+    cc (c.in_err-ok-in-67.was, c.ok.ensures.value, converted c.try_from.result c.in_ok-read-in-67.field-0 c.try_from.ensures fits)
+
+pub returns-in_ok-ok-in-67-clause-finds : goal.returns-in_ok-ok-in-67-clause-finds
+returns-in_ok-ok-in-67-clause-finds c =
+    let bs = c.args.bytes.now in
+    let is : slice_index bs 0 ≡ 67 = grind (arith, common_steps) in
+    λ v h e.
+    let s = at_count _ (λ n. refl) bs c.read-in-67.result c.read-in-67.ensures is v h e in
+    let n : c.in_ok-read-in-67.field-0 ≡ s.0 = cc (c.in_ok-read-in-67.was, s.2) in
+    let fits : c.in_ok-read-in-67.field-0 < 65536 = omega (arith, s.1) in
+    cc (c.in_ok-ok-in-67.was, c.ok.ensures.value, converted c.try_from.result c.in_ok-read-in-67.field-0 c.try_from.ensures fits, s.3)

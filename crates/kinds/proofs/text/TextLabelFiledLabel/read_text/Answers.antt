@@ -1,6 +1,5 @@
 use Rattle.kinds.proofs.Makes.{reads}
-use Rattle.kinds.specs.Trims.{text_tied}
 use Rattle.kinds.proofs.text.TextLabelFiledLabel.read_text.Goals as goal
 
-pub returns : goal.returns
-returns c = record { value = reads c.args.bytes.now c.make.result c.make.ensures.value; tied = text_tied }
+pub returns-clause-value : goal.returns-clause-value
+returns-clause-value c = reads c.args.bytes.now c.make.result c.make.ensures.value
