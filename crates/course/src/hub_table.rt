@@ -1,6 +1,6 @@
 // The tables by which the hubs of a recursion are found.
 ghost use Rattle.std.specs.Prelude.{◌≡◌, ℕ, ◌<◌, ◌≤◌, length, take, slice_index};
-ghost use Rattle.course.specs.Reach.{trues};
+ghost use Rattle.walks.specs.Reach.{trues};
 
 // The hubs of the marked nodes for the markers of a set, numbered from `first` on: for each node
 // its rank among the marked ones, for each marker its rank in the set. The recursion stands at the

@@ -5,11 +5,12 @@ use Rattle.std.proofs.lemmas.List.{get_or-set_same, get_or-set_other, get_or-rep
 use Rattle.std.proofs.lemmas.Bool.{cases_eq, cases_Bool, and_from, and_left, and_right, and_parts, eq-eqb, ne_eqb, eqb-true, cond-true, cond-false}
 use Rattle.course.specs.declared.course.Arrow.{Arrow}
 use Rattle.course.specs.Course.{is_blank_origin}
-use Rattle.course.specs.Reach.{In, ends}
+use Rattle.walks.specs.Reach.{In}
+use Rattle.course.specs.Reach.{ends}
 use Rattle.rows.specs.Links.{none, Fit, blank_from, latest, outs, Linked}
 use Rattle.rows.specs.Rows.{blanks}
 use Rattle.rows.specs.Visits.{marks_after, list_after, listed_after}
-use Rattle.rows.proofs.Members.{in_map, of_map, in_kept, of_kept, in_at, place_of}
+use Rattle.walks.proofs.Members.{in_map, of_map, in_kept, of_kept, in_at, place_of}
 
 abbrev blank_at : List Arrow → ℕ → Bool
 blank_at arrows k = is_blank_origin (get_or arrows k none).origin

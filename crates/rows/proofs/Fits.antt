@@ -6,7 +6,8 @@ use Rattle.std.proofs.lemmas.List.{at_drop_more, at_drop_all}
 use Rattle.std.proofs.lemmas.Bool.{and_parts, and_from, leb-true, ltb-true, lt-ltb, lt-leb, le-leb, cond-true, cond-false, both_ways}
 use Rattle.course.specs.declared.course.Arrow.{Arrow}
 use Rattle.course.specs.Ends.{joins, inside}
-use Rattle.course.specs.Reach.{among, closure, from, ends, lost}
+use Rattle.walks.specs.Reach.{among, closure, from, lead}
+use Rattle.course.specs.Reach.{ends, lost}
 use Rattle.rows.specs.Links.{none, Fit}
 use Rattle.rows.specs.declared.row.Row.{Row}
 use Rattle.rows.specs.declared.row.RowsFault.{RowsFault}
@@ -14,10 +15,9 @@ use Rattle.rows.specs.declared.row.RowsFault.TheVariants.{Unfit, TooMany}
 use Rattle.rows.specs.Growing.{Grown}
 use Rattle.rows.specs.Listing.{fits, listing, Answers}
 use Rattle.rows.specs.Rows.{steps, shown, rows_at, rows_of}
-use Rattle.rows.specs.Visits.{lead}
 use Rattle.rows.proofs.Adding.{rows_from}
 use Rattle.rows.proofs.Heading.{kept_alike}
-use Rattle.course.proofs.Reaching.{exact}
+use Rattle.walks.proofs.Reaching.{exact}
 use Rattle.rows.proofs.Showing.{ends_at, shown_of, of_shown}
 use Rattle.rows.proofs.Walking.{alike, lead_at}
 

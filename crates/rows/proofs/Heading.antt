@@ -6,15 +6,16 @@ use Rattle.std.proofs.ByRecursion.{All-from_get_or, All-map, all_kept_by}
 use Rattle.std.proofs.lemmas.Bool.{cond-true, cond-false}
 use Rattle.course.specs.declared.course.Arrow.{Arrow}
 use Rattle.course.specs.Course.{is_blank_origin}
-use Rattle.course.specs.Reach.{In, from, ends}
+use Rattle.walks.specs.Reach.{In, from, lead}
+use Rattle.course.specs.Reach.{ends}
 use Rattle.bounded.specs.declared.list.Bounded.{Bounded}
 use Rattle.bounded.specs.Lists.{held}
 use Rattle.rows.specs.declared.row.Row.{Row}
 use Rattle.rows.specs.Heads.{leads_by, heads_by, rows_by}
 use Rattle.rows.specs.Links.{none, Fit}
 use Rattle.rows.specs.Rows.{blanks, near, leads, row_of, rows_at, step, steps}
-use Rattle.rows.specs.Visits.{lead, listed_after, marks_after, list_after, Lies, Ready}
-use Rattle.rows.proofs.Members.{in_map, of_map, in_joined, of_joined, in_from}
+use Rattle.rows.specs.Visits.{listed_after, marks_after, list_after, Lies, Ready}
+use Rattle.walks.proofs.Members.{in_map, of_map, in_joined, of_joined, in_from}
 use Rattle.rows.proofs.Marking.{ready_after, lies_on}
 use Rattle.rows.proofs.Walking.{lead_at}
 

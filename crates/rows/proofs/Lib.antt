@@ -3,6 +3,5 @@ pub mod Chains
 pub mod Fits
 pub mod Heading
 pub mod Marking
-pub mod Members
 pub mod Showing
 pub mod Walking

@@ -3,11 +3,11 @@ use Rattle.std.proofs.Common.{◌≡◌, ℕ, zero, suc, ◌+◌, ◌<◌, ◌�
 use Rattle.std.specs.List.{AllByRecursion}
 use Rattle.std.proofs.lemmas.List.{get_or-set_same, get_or-set_other, get_or_past, get_or-replicate, length-append, length-replicate}
 use Rattle.std.proofs.lemmas.Bool.{cases_lt, cases_eq, both_ways}
-use Rattle.course.specs.Reach.{In, trues}
+use Rattle.walks.specs.Reach.{In, trues}
 use Rattle.bounded.specs.declared.list.Bounded.{Bounded}
 use Rattle.bounded.specs.Lists.{held, spare, room}
 use Rattle.rows.specs.Visits.{listed_after, marks_after, list_after, Lies, Ready}
-use Rattle.rows.proofs.Members.{in_left, in_right, in_either}
+use Rattle.walks.proofs.Members.{in_left, in_right, in_either}
 
 abbrev pub Marked : List Bool → ℕ → Type 0
 Marked m v = get_or m v false ≡ true

@@ -3,13 +3,13 @@ use Rattle.std.proofs.Common.{◌≡◌, ℕ, zero, suc, ◌+◌, ◌-◌, ◌<�
 use lib.ListN.{length-map}
 use Rattle.std.specs.List.{AllByRecursion}
 use Rattle.std.proofs.lemmas.List.{get_or-map, get_or-replicate, ext_get_or, length-append, length-replicate}
-use Rattle.course.specs.Reach.{In, Reaches, stay, go, among, closure, from, trues}
+use Rattle.walks.specs.Reach.{In, Reaches, stay, go, among, closure, from, trues, lead}
 use Rattle.bounded.specs.declared.list.Bounded.{Bounded}
 use Rattle.bounded.specs.Lists.{held, room}
-use Rattle.rows.specs.Visits.{lead, listed_after, marks_after, list_after, Lies, Ready}
-use Rattle.rows.proofs.Members.{in_left}
+use Rattle.rows.specs.Visits.{listed_after, marks_after, list_after, Lies, Ready}
+use Rattle.walks.proofs.Members.{in_left}
 use Rattle.rows.proofs.Marking.{Marked, mark_here, mark_keeps, mark_back, marked_within, unmarked, trues_within, trues_new, after_in, after_back, after_new, in_last, in_split, Counts, counts}
-use Rattle.course.proofs.Reaching.{exact}
+use Rattle.walks.proofs.Reaching.{exact}
 
 -- between two visits: what is marked is reached from r, and a step from a marked node leads to one, unless it is listed
 pub record Walk (steps : List (ℕ × ℕ)) (r : ℕ) (m : List Bool) (h : List ℕ) : Type 0 where

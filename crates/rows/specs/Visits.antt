@@ -11,7 +11,7 @@
 use Rattle.std.specs.Prelude.{◌≡◌, ℕ, ◌≤◌, Bool, true, false, cond, List, [], ◌∷◌, ◌++◌, map, length, Some, None, Option, slice_index_or, slice_set}
 use Rattle.bounded.specs.declared.list.Bounded.{Bounded}
 use Rattle.bounded.specs.Lists.{held, room}
-use Rattle.course.specs.Reach.{among, closure, from, trues}
+use Rattle.walks.specs.Reach.{among, closure, from, trues}
 
 unfoldable pub lead : ℕ → List (ℕ × ℕ) → ℕ → List Bool
 lead n steps r = let s = closure steps (r ∷ []) in map (λ v. among v s) (from 0 n)

@@ -1,7 +1,7 @@
 // The rows of nodes, one after another.
 ghost use Rattle.std.specs.Prelude.{◌≡◌, ◌≤◌, false, length, vec_len, vec_capacity, filter, ◌==◌, slice_index_or};
 ghost use Rattle.std.specs.List.{flat_map};
-ghost use Rattle.course.specs.Reach.{from};
+ghost use Rattle.walks.specs.Reach.{from};
 ghost use Rattle.rows.specs.Heads.{rows_by};
 ghost use Rattle.rows.specs.Links.{Fit, Linked};
 ghost use Rattle.rows.specs.Growing.{Grown};

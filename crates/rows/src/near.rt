@@ -4,7 +4,8 @@ ghost use Rattle.bounded.specs.Lists.{held};
 ghost use Rattle.course.specs.Reach.{ends};
 ghost use Rattle.rows.specs.Links.{Fit, Linked, outs};
 ghost use Rattle.rows.specs.Rows.{blanks};
-ghost use Rattle.rows.specs.Visits.{lead, marks_after, list_after, Lies, Ready};
+ghost use Rattle.walks.specs.Reach.{lead};
+ghost use Rattle.rows.specs.Visits.{marks_after, list_after, Lies, Ready};
 
 use crate::links::Links;
 use crate::visits::{mark, take_last};

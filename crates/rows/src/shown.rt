@@ -4,7 +4,8 @@ ghost use Rattle.bounded.specs.Lists.{held};
 ghost use Rattle.rows.specs.Heads.{leads_by, heads_by};
 ghost use Rattle.rows.specs.Links.{Fit, Linked};
 ghost use Rattle.rows.specs.Rows.{steps};
-ghost use Rattle.rows.specs.Visits.{lead, marks_after, list_after, Lies, Ready};
+ghost use Rattle.walks.specs.Reach.{lead};
+ghost use Rattle.rows.specs.Visits.{marks_after, list_after, Lies, Ready};
 
 use crate::links::{Links, is_blank};
 use crate::near::mark_near;

@@ -1,6 +1,7 @@
 use Rattle.std.proofs.Common.{◌+◌, ◌-◌, map, length}
 use Rattle.bounded.specs.Lists.{held}
-use Rattle.course.specs.Reach.{ends, trues}
+use Rattle.walks.specs.Reach.{trues}
+use Rattle.course.specs.Reach.{ends}
 use Rattle.rows.specs.Rows.{blanks}
 use Rattle.rows.proofs.Walking.{Walked}
 use Rattle.rows.proofs.near.mark_near.Given as goal

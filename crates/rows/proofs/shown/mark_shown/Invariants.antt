@@ -1,6 +1,6 @@
 use Rattle.std.proofs.Common.{◌≡◌, ◌+◌, ◌-◌, length}
 use Rattle.bounded.specs.Lists.{held}
-use Rattle.course.specs.Reach.{trues}
+use Rattle.walks.specs.Reach.{trues}
 use Rattle.rows.specs.Rows.{steps}
 use Rattle.rows.proofs.Walking.{Walked}
 use Rattle.rows.proofs.shown.mark_shown.Given as goal

@@ -1,7 +1,7 @@
 -- The closure is what the steps reach. Assumes nothing.
 use Rattle.std.proofs.Common.{◌≡◌, ℕ, Bool, true, false, not, ◌&&◌, eqb, ◌⊎◌, ◌↔◌, List, [], ◌∷◌, sym, refl, ap, ◌∙◌, subst, inl, inr}
 use Rattle.std.proofs.lemmas.Bool.{eqb-true, eq-eqb, or_cases, or_left, or_right, and_parts, not-false, both_ways}
-use Rattle.course.specs.Reach.{among, In, Reaches, stay, go, closure}
+use Rattle.walks.specs.Reach.{among, In, Reaches, stay, go, closure}
 
 among_head : (v : ℕ) (s : List ℕ) → among v (v ∷ s) ≡ true
 among_head v s = or_left (eqb v v) (among v s) (eq-eqb v v refl)
