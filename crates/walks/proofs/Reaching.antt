@@ -1,7 +1,7 @@
 -- The closure is what the steps reach. Assumes nothing.
-use Rattle.std.proofs.Common.{◌≡◌, ℕ, Bool, true, false, not, ◌&&◌, eqb, ◌⊎◌, ◌↔◌, List, [], ◌∷◌, sym, refl, ap, ◌∙◌, subst, inl, inr}
+use Rattle.std.proofs.Common.{◌≡◌, ℕ, ◌<◌, Bool, true, false, not, ◌&&◌, eqb, ◌⊎◌, ◌↔◌, List, [], ◌∷◌, sym, refl, ap, ◌∙◌, subst, inl, inr, ⊎_elim}
 use Rattle.std.proofs.lemmas.Bool.{eqb-true, eq-eqb, or_cases, or_left, or_right, and_parts, not-false, both_ways}
-use Rattle.walks.specs.Reach.{among, In, Reaches, stay, go, closure}
+use Rattle.walks.specs.Reach.{among, In, Reaches, stay, go, closure, Inside}
 
 among_head : (v : ℕ) (s : List ℕ) → among v (v ∷ s) ≡ true
 among_head v s = or_left (eqb v v) (among v s) (eq-eqb v v refl)
@@ -87,3 +87,9 @@ exact steps r v = (
     only : (u : ℕ) → Reaches steps u v → (eqb u r ≡ true) ⊎ (false ≡ true) → Reaches steps r v
     only u q (inl e) = subst (λ (x : ℕ). Reaches steps x v) (eqb-true u r e) q
     only u q (inr e) = absurd (both_ways false refl e)
+
+-- what is reached is the root, unless steps leave the root
+pub reached_from : (n : ℕ) (steps : List (ℕ × ℕ)) (r v : ℕ) → Inside n steps → Reaches steps r v → (v ≡ r) ⊎ (r < n)
+reached_from n steps r x h stay = inl refl
+reached_from n steps r x h (go {v} {w} q i) =
+    ⊎_elim (λ e. inr (subst (λ (x : ℕ). x < n) e (h.ends v w i).0)) (λ l. inr l) (reached_from n steps r v h q)
