@@ -9,7 +9,7 @@ use Rattle.course.specs.declared.course.Outcome.TheVariants.{Same, Other}
 use Rattle.course.specs.declared.course.Comparison.{Comparison}
 use Rattle.course.specs.Course.{Course, Run, done, full}
 use Rattle.course.specs.Labels.{Compare}
-use Rattle.course.specs.Reach.{In}
+use Rattle.walks.specs.Reach.{In}
 use Rattle.course.specs.Forward.{forward}
 use Rattle.laws.specs.Every.{Every}
 use Rattle.laws.specs.Labelling.{same_labels}

@@ -3,7 +3,7 @@ use Rattle.std.proofs.Common.{◌≡◌, ℕ, Bool, cond, eqb, List, [], ◌∷�
 use Rattle.std.specs.List.{slice_get}
 use Rattle.course.specs.declared.course.Origin.{Origin}
 use Rattle.course.specs.declared.course.Origin.TheVariants.{Blank, Source, Constant}
-use Rattle.course.specs.Reach.{In}
+use Rattle.walks.specs.Reach.{In}
 use Rattle.bench.specs.declared.refusal.Refusal.{Refusal}
 use Rattle.bench.specs.declared.refusal.Refusal.TheVariants.{NothingOpened}
 use Rattle.bench.specs.declared.request.Edit.{Edit}

@@ -10,7 +10,7 @@
 --   UndoRedo, RedoUndo  undo followed by redo, and redo followed by undo, restore every label, whatever calls came before
 use Rattle.std.specs.Prelude.{◌≡◌, ℕ, Bool, true, List, [], Some, ◌≢◌}
 use Rattle.std.specs.List.{slice_get}
-use Rattle.course.specs.Reach.{In}
+use Rattle.walks.specs.Reach.{In}
 use Rattle.rows.specs.declared.row.Row.{Row}
 use Rattle.bench.specs.declared.refusal.Refusal.TheVariants.{NoEdit}
 use Rattle.bench.specs.declared.request.Edit.{Edit}

@@ -29,7 +29,7 @@ use Rattle.std.specs.List.{slice_get}
 use Rattle.expression.specs.Rules.{keeps}
 use Rattle.course.specs.declared.course.Origin.TheVariants.{Source}
 use Rattle.course.specs.Course.{Course, Run, done, full}
-use Rattle.course.specs.Reach.{In}
+use Rattle.walks.specs.Reach.{In}
 use Rattle.course.specs.Forward.{forward}
 use Rattle.laws.specs.Bounds.{Sound}
 use Rattle.rows.specs.declared.row.Row.{Row}

@@ -5,7 +5,7 @@ use Rattle.std.proofs.lemmas.List.{get_or_past}
 use Rattle.course.specs.declared.course.Node.{Node}
 use Rattle.course.specs.declared.course.ListName.TheVariants.{Nodes}
 use Rattle.course.specs.Course.{Course, Run, done, full, Step, onward, give, enter_node, new_node, each_at}
-use Rattle.course.specs.Reach.{trues}
+use Rattle.walks.specs.Reach.{trues}
 use Rattle.course.specs.Hubs.{hub, hubs}
 use Rattle.course.specs.View.{Within}
 use Rattle.course.proofs.Slots.{slots_at, slots_long}

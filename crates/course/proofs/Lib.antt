@@ -9,7 +9,6 @@ pub mod Loops
 pub mod Maps
 pub mod Openings
 pub mod Ranks
-pub mod Reaching
 pub mod Recurs
 pub mod Runs
 pub mod Slots

@@ -2,7 +2,7 @@
 use Rattle.std.proofs.Common.{◌≡◌, ℕ, ◌+◌, ◌<◌, ◌≤◌, Bool, true, false, cond, List, [], ◌∷◌, ◌++◌, length, get_or, take, sym, refl, ap, ◌∙◌, add-zero, add_assoc, zero-add, arith, length-take}
 use Rattle.std.specs.Int.{from_bool}
 use Rattle.std.proofs.lemmas.List.{take_more}
-use Rattle.course.specs.Reach.{trues}
+use Rattle.walks.specs.Reach.{trues}
 use Rattle.course.proofs.Walks.{trues_within}
 
 -- a flag as a number

@@ -4,10 +4,11 @@ use lib.ListN.{length-map}
 use Rattle.std.proofs.lemmas.List.{take-map, get_or-set_same, get_or-set_other, get_or_past, get_or-replicate, get_or-map, ext_get_or, length-append, length-replicate}
 use Rattle.std.proofs.lemmas.Bool.{cases_lt, cases_eq, cases_Bool, eqb-true, eqb-false, both_ways}
 use Rattle.course.specs.declared.course.Arrow.{Arrow}
-use Rattle.course.specs.Reach.{lost, In, Reaches, stay, go, ends, trues, reached, closure, among, from}
+use Rattle.walks.specs.Reach.{In, Reaches, stay, go, trues, closure, among, from, lead}
+use Rattle.course.specs.Reach.{lost, ends, reached}
 use Rattle.course.specs.Chains.{latest}
 use Rattle.course.specs.Walk.{Marked, Walk, Visit, Counts}
-use Rattle.course.proofs.Reaching.{closed, exact}
+use Rattle.walks.proofs.Reaching.{closed, exact}
 
 -- the latest arrow
 
@@ -251,19 +252,19 @@ take_from i (suc m) zero h = absurd (omega arith)
 take_from i (suc m) (suc n) h = ap (λ l. i ∷ l) (take_from (suc i) m n (omega arith))
 
 pub reached_front : (xs : List Arrow) (r m n : ℕ) → m ≤ n → take m (reached n xs r) ≡ reached m xs r
-unfolding reached
+unfolding reached lead
 reached_front xs r m n h =
     take-map (λ v. among v (closure (map ends xs) (r ∷ []))) m (from 0 n) ∙ ap (map (λ v. among v (closure (map ends xs) (r ∷ [])))) (take_from 0 m n h)
 
 -- the flag of a node
 pub reached_at : (xs : List Arrow) (n r v : ℕ) → v < n → get_or (reached n xs r) v false ≡ among v (closure (map ends xs) (r ∷ []))
-unfolding reached
+unfolding reached lead
 reached_at xs n r v h =
     get_or-map (λ u. among u (closure (map ends xs) (r ∷ []))) (from 0 n) v 0 false (omega (arith, length_from 0 n))
     ∙ ap (λ u. among u (closure (map ends xs) (r ∷ []))) (get_or_from 0 n v h ∙ omega arith)
 
 pub reached_long : (xs : List Arrow) (n r : ℕ) → length (reached n xs r) ≡ n
-unfolding reached
+unfolding reached lead
 reached_long xs n r = length-map (from 0 n) (λ v. among v (closure (map ends xs) (r ∷ []))) ∙ length_from 0 n
 
 -- the root is reached, and so is what an arrow leads to from a reached node

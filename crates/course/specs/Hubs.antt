@@ -6,7 +6,7 @@
 --   slots g i ms    for each marker of a list of flags, counted from i on, its g where the flag is set, and else 0
 --   hubs s ms h v   the hubs of the node v as an in-map
 use Rattle.std.specs.Prelude.{ℕ, suc, ◌+◌, ◌*◌, Bool, cond, List, [], ◌∷◌, take}
-use Rattle.course.specs.Reach.{trues}
+use Rattle.walks.specs.Reach.{trues}
 
 abbrev pub hub : List Bool → List Bool → ℕ → ℕ → ℕ → ℕ
 hub s ms h v m = h + trues (take v s) * trues ms + trues (take m ms)

@@ -21,7 +21,7 @@ use Rattle.expression.specs.Forms.{Tree}
 use Rattle.course.specs.Course.{Step, each_at}
 use Rattle.course.specs.Labels.{Compare}
 use Rattle.course.specs.Forward.{deeper, run_body, turn, eval}
-use Rattle.course.specs.Reach.{trues}
+use Rattle.walks.specs.Reach.{trues}
 use Rattle.course.specs.Hubs.{hubs}
 use Rattle.course.specs.View.{course_of, Goes}
 

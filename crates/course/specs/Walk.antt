@@ -11,7 +11,8 @@ use Rattle.std.specs.Prelude.{◌≡◌, ℕ, ◌+◌, ◌<◌, ◌≤◌, Bool,
 use Rattle.course.specs.declared.course.Arrow.{Arrow}
 use Rattle.bounded.specs.declared.list.Bounded.{Bounded}
 use Rattle.bounded.specs.Lists.{room}
-use Rattle.course.specs.Reach.{lost, In, Reaches, ends, trues}
+use Rattle.walks.specs.Reach.{In, Reaches, trues}
+use Rattle.course.specs.Reach.{lost, ends}
 
 abbrev pub Marked : List Bool → ℕ → Type 0
 Marked m v = slice_index_or m v false ≡ true

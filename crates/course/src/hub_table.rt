@@ -1,6 +1,6 @@
 // The tables by which the hubs of a recursion are found.
 ghost use Rattle.std.specs.Prelude.{◌≡◌, ℕ, ◌<◌, ◌≤◌, length, take, slice_index};
-ghost use Rattle.course.specs.Reach.{trues};
+ghost use Rattle.walks.specs.Reach.{trues};
 
 use crate::rule::Rule;
 

@@ -1,6 +1,7 @@
 // The hubs of a recursion, found in constant time.
 ghost use Rattle.std.specs.Prelude.{◌≡◌, ℕ, ◌<◌, ◌≤◌, length, take, vec_len, slice_index};
-ghost use Rattle.course.specs.Reach.{reached, trues};
+ghost use Rattle.walks.specs.Reach.{trues};
+ghost use Rattle.course.specs.Reach.{reached};
 ghost use Rattle.course.specs.Recursions.{Numbers};
 
 use crate::hub_table::Hubs;

@@ -1,7 +1,8 @@
 // The nodes that arrows reach from a root: a work list over the arrows that leave each node.
 ghost use Rattle.std.specs.Prelude.{◌≡◌, ℕ, ◌+◌, ◌<◌, ◌≤◌, true, false, [], ◌∷◌, ◌++◌, length, if◌then◌else◌, vec_len, slice_index_or, slice_set};
 ghost use Rattle.bounded.specs.Lists.{held, room};
-ghost use Rattle.course.specs.Reach.{reached, trues};
+ghost use Rattle.walks.specs.Reach.{trues};
+ghost use Rattle.course.specs.Reach.{reached};
 ghost use Rattle.course.specs.Walk.{Walk, Visit, Counts, Popped, Lies};
 
 use crate::workspace::Workspace;

@@ -7,7 +7,7 @@ use Rattle.course.specs.declared.course.Origin.{Origin}
 use Rattle.course.specs.declared.course.Origin.TheVariants.{Blank, Source, Constant}
 use Rattle.course.specs.declared.course.Comparison.{Comparison}
 use Rattle.course.specs.Course.{done}
-use Rattle.course.specs.Reach.{In}
+use Rattle.walks.specs.Reach.{In}
 use Rattle.course.specs.Forward.{forward}
 use Rattle.laws.specs.Labelling.{same_labels}
 use Rattle.laws.specs.Recorded.{Holds}

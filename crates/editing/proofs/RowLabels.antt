@@ -6,7 +6,7 @@ use Rattle.course.specs.declared.course.Arrow.{Arrow}
 use Rattle.course.specs.declared.course.Origin.{Origin}
 use Rattle.course.specs.declared.course.Origin.TheVariants.{Blank, Source, Constant}
 use Rattle.course.specs.Course.{is_blank_origin}
-use Rattle.course.specs.Reach.{among}
+use Rattle.walks.specs.Reach.{among}
 use Rattle.laws.specs.Every.{Every}
 use Rattle.laws.specs.Bounds.{Known, Labelled, ArrowIn}
 use Rattle.laws.proofs.Bounded.{bounds}

@@ -22,7 +22,8 @@ use Rattle.course.specs.declared.environment.Out.{Out}
 use Rattle.course.specs.Course.{is_blank_origin, Course, Run, done, full, Step, onward, give, ◌>>◌, branch, enter_node, enter_arrow, enter_frame, enter_comparison, new_node, new_arrow, link, each, each_at, nodes_for}
 use Rattle.course.specs.Labels.{Compare}
 use Rattle.course.specs.Hubs.{hub, hubs}
-use Rattle.course.specs.Reach.{In, lost, reached, stay}
+use Rattle.walks.specs.Reach.{In, stay}
+use Rattle.course.specs.Reach.{lost, reached}
 use Rattle.course.specs.Forward.{Maps, only, origin_of, deeper, labelled, joint, tie, compared, chosen, hubs_step, link_at, run_body, turn, recur, eval}
 use Rattle.laws.specs.Every.{Every, EveryFrom}
 use Rattle.laws.specs.Bounds.{Known, Labelled, NodeIn, ArrowIn, InnerFrame, FrameIn, ComparisonIn, CourseIn}

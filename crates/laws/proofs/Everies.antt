@@ -1,7 +1,7 @@
 -- What holds of every element: joined, parted, weakened and read. Assumes nothing.
 use Rattle.std.proofs.Common.{◌≡◌, ℕ, zero, suc, ◌+◌, ◌≤◌, List, [], ◌∷◌, ◌++◌, map, length, get_or, set, replicate, sym, refl, subst, inl, inr, arith}
 use Rattle.std.specs.List.{flat_map}
-use Rattle.course.specs.Reach.{In}
+use Rattle.walks.specs.Reach.{In}
 use Rattle.laws.specs.Every.{Every, EveryFrom}
 
 module _ {X : Type 0} where

@@ -7,7 +7,7 @@ use Rattle.course.specs.declared.course.Node.{Node}
 use Rattle.course.specs.declared.course.Full.{Full}
 use Rattle.course.specs.declared.course.ListName.TheVariants.{Nodes}
 use Rattle.course.specs.Course.{full_at, Course, Run, done, full, Step, onward, give, ◌>>◌, enter_node, each}
-use Rattle.course.specs.Reach.{In}
+use Rattle.walks.specs.Reach.{In}
 use Rattle.laws.specs.Every.{Ascending}
 use Rattle.laws.specs.Recursion.{below, hub_of, hub_node, enter_hubs, HubsMade, HubsExact}
 use Rattle.laws.proofs.Members.{get_or_below, below_length}

@@ -6,7 +6,8 @@ use Rattle.course.specs.declared.environment.Environment.{Environment}
 use Rattle.course.specs.Course.{Course, Run, done, full, Step, onward, each_at}
 use Rattle.course.specs.Labels.{Compare}
 use Rattle.course.specs.Hubs.{hubs}
-use Rattle.course.specs.Reach.{In, reached}
+use Rattle.walks.specs.Reach.{In}
+use Rattle.course.specs.Reach.{reached}
 use Rattle.course.specs.Forward.{Maps, maps, hubs_step, turn, recur, eval}
 use Rattle.laws.specs.Extends.{Extends}
 use Rattle.laws.specs.Recursion.{members, nodes_reached, hub_of, hub_node, HubsMade, HubsStand}

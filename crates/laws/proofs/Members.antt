@@ -2,7 +2,8 @@
 use Rattle.std.proofs.Common.{◌≡◌, ℕ, zero, suc, ◌+◌, ◌-◌, ◌<◌, ◌≤◌, Bool, true, false, cond, ◌||◌, eqb, ltb, ◌⊎◌, List, [], ◌∷◌, map, length, get_or, take, sym, refl, ap, ◌∙◌, subst, inl, inr, arith}
 use Rattle.std.proofs.lemmas.Bool.{eqb-true, eq-eqb, ne_eqb, lt-ltb, le-ltb, or_cases, or_left, or_right, both_ways, cases_eq}
 use Rattle.course.specs.declared.course.Arrow.{Arrow}
-use Rattle.course.specs.Reach.{In, among, lost, trues, reached}
+use Rattle.walks.specs.Reach.{In, among, trues}
+use Rattle.course.specs.Reach.{lost, reached}
 use Rattle.laws.specs.Every.{Every, Ascending}
 use Rattle.laws.specs.Recursion.{members, Numbered, leaving, below, MembersExact, ArrowsExact, NodesExact}
 use Rattle.laws.proofs.Everies.{every_in}

@@ -3,8 +3,9 @@ use Rattle.std.proofs.Common.{◌≡◌, ℕ, zero, suc, ◌+◌, ◌<◌, Bool,
 use Rattle.std.proofs.lemmas.List.{get_or-map, length-map}
 use Rattle.std.proofs.lemmas.Bool.{both_ways}
 use Rattle.course.specs.declared.course.Arrow.{Arrow}
-use Rattle.course.specs.Reach.{among, In, go, closure, from, ends, reached}
-use Rattle.course.proofs.Reaching.{exact}
+use Rattle.walks.specs.Reach.{among, In, go, closure, from, lead}
+use Rattle.course.specs.Reach.{ends, reached}
+use Rattle.walks.proofs.Reaching.{exact}
 use Rattle.laws.specs.Reached.{ReachedExact}
 
 get_or_from : (i n v d : ℕ) → v < n → get_or (from i n) v d ≡ i + v
@@ -17,12 +18,12 @@ length_from i zero = refl
 length_from i (suc n) = ap suc (length_from (suc i) n)
 
 pub length_reached : (n : ℕ) (arrows : List Arrow) (r : ℕ) → length (reached n arrows r) ≡ n
-unfolding reached
+unfolding reached lead
 length_reached n arrows r = length-map (from 0 n) (λ v. among v (closure (map ends arrows) (r ∷ []))) ∙ length_from 0 n
 
 -- the flag of a node is whether it is in the closure
 pub reached_at : (n : ℕ) (arrows : List Arrow) (r v : ℕ) → v < n → get_or (reached n arrows r) v false ≡ among v (closure (map ends arrows) (r ∷ []))
-unfolding reached
+unfolding reached lead
 reached_at n arrows r v h =
     let s = closure (map ends arrows) (r ∷ []) in
     let e : get_or (from 0 n) v 0 ≡ v = get_or_from 0 n v 0 h ∙ omega arith in

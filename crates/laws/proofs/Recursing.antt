@@ -6,7 +6,8 @@ use Rattle.course.specs.declared.course.Origin.TheVariants.{Blank}
 use Rattle.course.specs.declared.environment.Environment.{Environment}
 use Rattle.course.specs.declared.environment.Out.{Out}
 use Rattle.course.specs.Course.{is_blank_origin, Course, Run, done, full, Step, onward, give, ◌>>◌, branch, enter_node, enter_frame, new_arrow, each, each_at}
-use Rattle.course.specs.Reach.{In, among, trues, reached}
+use Rattle.walks.specs.Reach.{In, among, trues}
+use Rattle.course.specs.Reach.{reached}
 use Rattle.course.specs.Hubs.{hub, slots, hubs}
 use Rattle.course.specs.Forward.{Maps, deeper, tie, hub_step, hubs_step, link_at, run_body, turn, recur}
 use Rattle.laws.specs.Recursion.{members, Numbered, leaving, below, hub_of, hub_node, enter_hubs, take_arrow, RecursionRule, HubNumbers}

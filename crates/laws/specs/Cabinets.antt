@@ -25,7 +25,8 @@ use Rattle.course.specs.declared.course.Origin.TheVariants.{Blank, Source, Const
 use Rattle.course.specs.declared.course.Outcome.{Outcome}
 use Rattle.course.specs.declared.course.Outcome.TheVariants.{Same, Other}
 use Rattle.course.specs.Course.{Course, Run, done, full, link, enter_node, enter_arrow, enter_frame, enter_comparison, each, each_at, nodes_for}
-use Rattle.course.specs.Reach.{reached, trues}
+use Rattle.walks.specs.Reach.{trues, lead}
+use Rattle.course.specs.Reach.{reached}
 use Rattle.course.specs.Labels.{by_class}
 use Rattle.course.specs.Hubs.{slots}
 use Rattle.course.specs.Sources.{Graph, graph}
@@ -34,7 +35,7 @@ use Rattle.laws.specs.Bounds.{Sound}
 use Rattle.laws.specs.Labelling.{by_label}
 
 unfoldable pub computes : Unit {0}
-unfolding tree_at tree_in ins outs keeps fits sets_fit enter_node enter_arrow enter_frame enter_comparison each each_at nodes_for reached trues forward labelled joint compared slots run_body turn recur eval merged
+unfolding tree_at tree_in ins outs keeps fits sets_fit enter_node enter_arrow enter_frame enter_comparison each each_at nodes_for reached lead trues forward labelled joint compared slots run_body turn recur eval merged
 computes = tt
 
 pub data Name : Type 0 where

@@ -4,7 +4,8 @@
 --                   from r in any number of steps, r itself among them
 use Rattle.std.specs.Prelude.{◌≡◌, ℕ, ◌<◌, true, false, ◌↔◌, List, map, slice_index_or}
 use Rattle.course.specs.declared.course.Arrow.{Arrow}
-use Rattle.course.specs.Reach.{Reaches, ends, reached}
+use Rattle.walks.specs.Reach.{Reaches}
+use Rattle.course.specs.Reach.{ends, reached}
 
 abbrev pub ReachedExact : Type 0
 ReachedExact =

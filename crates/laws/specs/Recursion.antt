@@ -37,7 +37,8 @@ use Rattle.course.specs.declared.course.Origin.TheVariants.{Blank}
 use Rattle.course.specs.declared.environment.Environment.{Environment}
 use Rattle.course.specs.declared.environment.Out.{Out}
 use Rattle.course.specs.Course.{is_blank_origin, Course, Step, done, give, ◌>>=◌, ◌>>◌, branch, enter_node, enter_frame, new_arrow, each}
-use Rattle.course.specs.Reach.{In, Reaches, among, ends, lost, reached}
+use Rattle.walks.specs.Reach.{In, Reaches, among}
+use Rattle.course.specs.Reach.{ends, lost, reached}
 use Rattle.course.specs.Hubs.{hub, slots}
 use Rattle.course.specs.Labels.{Compare}
 use Rattle.course.specs.Forward.{Maps, deeper, recur, eval}

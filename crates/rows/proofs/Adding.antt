@@ -4,7 +4,7 @@ use Rattle.std.specs.List.{flat_map}
 use Rattle.std.proofs.lemmas.List.{at_drop_more, at_drop_all, append_assoc, append-nil, length-append}
 use Rattle.std.proofs.lemmas.Bool.{cond-true, cond-false}
 use Rattle.course.specs.declared.course.Arrow.{Arrow}
-use Rattle.course.specs.Reach.{from}
+use Rattle.walks.specs.Reach.{from}
 use Rattle.rows.specs.declared.row.Row.{Row}
 use Rattle.rows.specs.Heads.{leads_by, rows_by}
 use Rattle.rows.specs.Links.{none}

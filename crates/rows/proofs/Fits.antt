@@ -1,12 +1,12 @@
 -- What holds of arrows that fit: their ends are in reach of the marks, and the marks of what is shown are exact. Assumes
 -- nothing.
-use Rattle.std.proofs.Common.{◌≡◌, ℕ, zero, suc, ◌+◌, ◌<◌, ◌≤◌, Bool, true, false, ◌&&◌, ltb, leb, List, [], ◌∷◌, map, length, get_or, drop, is_err, Ok, Err, filter, Result, sym, refl, ap, ◌∙◌, subst, arith}
-use Rattle.std.specs.List.{flat_map as joined, AllByRecursion}
-use Rattle.std.proofs.lemmas.List.{at_drop_more, at_drop_all}
-use Rattle.std.proofs.lemmas.Bool.{and_parts, and_from, leb-true, ltb-true, lt-ltb, lt-leb, le-leb, cond-true, cond-false, both_ways}
+use Rattle.std.proofs.Common.{◌≡◌, ℕ, zero, suc, ◌+◌, ◌<◌, ◌≤◌, Bool, true, false, ◌&&◌, ltb, leb, List, [], ◌∷◌, map, length, get_or, is_err, Ok, Err, filter, Result, sym, refl, ap, ◌∙◌, subst, arith}
+use Rattle.std.specs.List.{flat_map as joined, list_all, AllByRecursion}
+use Rattle.std.proofs.lemmas.Bool.{and_parts, leb-true, ltb-true, lt-leb, le-leb, cond-true, cond-false, both_ways}
 use Rattle.course.specs.declared.course.Arrow.{Arrow}
 use Rattle.course.specs.Ends.{joins, inside}
-use Rattle.course.specs.Reach.{among, closure, from, ends, lost}
+use Rattle.walks.specs.Reach.{among, closure, from, lead}
+use Rattle.course.specs.Reach.{ends, lost}
 use Rattle.rows.specs.Links.{none, Fit}
 use Rattle.rows.specs.declared.row.Row.{Row}
 use Rattle.rows.specs.declared.row.RowsFault.{RowsFault}
@@ -14,28 +14,16 @@ use Rattle.rows.specs.declared.row.RowsFault.TheVariants.{Unfit, TooMany}
 use Rattle.rows.specs.Growing.{Grown}
 use Rattle.rows.specs.Listing.{fits, listing, Answers}
 use Rattle.rows.specs.Rows.{steps, shown, rows_at, rows_of}
-use Rattle.rows.specs.Visits.{lead}
 use Rattle.rows.proofs.Adding.{rows_from}
 use Rattle.rows.proofs.Heading.{kept_alike}
-use Rattle.course.proofs.Reaching.{exact}
+use Rattle.walks.proofs.Reaching.{exact}
 use Rattle.rows.proofs.Showing.{ends_at, shown_of, of_shown}
-use Rattle.rows.proofs.Walking.{alike, lead_at}
+use Rattle.walks.proofs.Walking.{alike, lead_at}
 
--- the test of the ends, arrow by arrow
-module _ (n : ℕ) (arrows : List Arrow) (k : ℕ) where
-  left : k < length arrows → inside n (map ends (drop k arrows)) ≡ (joins n (ends (get_or arrows k none)) && inside n (map ends (drop (k + 1) arrows)))
-  left l = at_drop_more (λ (a : List Arrow). inside n (map ends a)) arrows k none l
-
-  pub inside_more : k < length arrows → (get_or arrows k none).tail < n → (get_or arrows k none).head < n → inside n (map ends (drop k arrows)) ≡ inside n (map ends arrows) → inside n (map ends (drop (k + 1) arrows)) ≡ inside n (map ends arrows)
-  inside_more l t h s =
-      let j = and_from (ltb (get_or arrows k none).tail n) (ltb (get_or arrows k none).head n) (lt-ltb _ n t) (lt-ltb _ n h) in
-      sym (left l ∙ ap (λ b. b && inside n (map ends (drop (k + 1) arrows))) j) ∙ s
-
-  pub inside_not : k < length arrows → joins n (ends (get_or arrows k none)) ≡ false → inside n (map ends (drop k arrows)) ≡ inside n (map ends arrows) → false ≡ inside n (map ends arrows)
-  inside_not l j s = sym (left l ∙ ap (λ b. b && inside n (map ends (drop (k + 1) arrows))) j) ∙ s
-
-  pub inside_all : length arrows ≤ k → inside n (map ends (drop k arrows)) ≡ inside n (map ends arrows) → true ≡ inside n (map ends arrows)
-  inside_all l s = sym (at_drop_all (λ (a : List Arrow). inside n (map ends a)) arrows k l) ∙ s
+-- the test of the ends, as `all` computes it
+pub inside_list_all : (n : ℕ) (arrows : List Arrow) → inside n (map ends arrows) ≡ list_all (λ a. joins n (ends a)) arrows
+inside_list_all n [] = refl
+inside_list_all n (a ∷ arrows) = ap (λ b. joins n (ends a) && b) (inside_list_all n arrows)
 
 -- the parts of the whole test
 pub record Fitting (arrows : List Arrow) (n root : ℕ) : Type 0 where

@@ -1,8 +1,5 @@
 pub mod Adding
-pub mod Chains
 pub mod Fits
 pub mod Heading
-pub mod Marking
-pub mod Members
 pub mod Showing
-pub mod Walking
+pub mod Linking

@@ -7,12 +7,13 @@ use Rattle.std.proofs.lemmas.Bool.{and_parts, and_from, not-true, not_from_false
 use Rattle.course.specs.declared.course.Arrow.{Arrow}
 use Rattle.course.specs.Course.{is_blank_origin}
 use Rattle.course.specs.Ends.{joins, inside}
-use Rattle.course.specs.Reach.{In, Reaches, stay, go, among, closure, from, ends, lost}
+use Rattle.walks.specs.Reach.{In, Reaches, stay, go, among, closure, from}
+use Rattle.course.specs.Reach.{ends, lost}
 use Rattle.rows.specs.declared.row.Row.{Row}
 use Rattle.rows.specs.Rows.{blanks, Leaves, Shown, first, next, near, leads, row_of, rows_at, step, steps, shown}
 use Rattle.rows.specs.RowsLaw.{Before, Ascending, RowsLaw}
-use Rattle.course.proofs.Reaching.{exact}
-use Rattle.rows.proofs.Members.{in_map, of_map, in_joined, of_joined, in_kept, of_kept, in_from, numbers, of_numbers, in_numbers}
+use Rattle.walks.proofs.Reaching.{exact}
+use Rattle.walks.proofs.Members.{in_map, of_map, in_joined, of_joined, in_kept, of_kept, in_from, numbers, of_numbers, in_numbers}
 
 -- the pairs of a node and the arrows that its rows have
 abbrev pub pairs_at : List Arrow → ℕ → List (ℕ × ℕ)

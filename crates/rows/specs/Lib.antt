@@ -5,4 +5,3 @@ pub mod Listing
 pub mod Rows
 pub mod RowsCases
 pub mod RowsLaw
-pub mod Visits

@@ -20,7 +20,8 @@ use Rattle.std.specs.Prelude.{◌≡◌, ℕ, ◌<◌, Bool, false, not, ◌&&�
 use Rattle.std.specs.List.{flat_map}
 use Rattle.course.specs.declared.course.Arrow.{Arrow}
 use Rattle.course.specs.Course.{is_blank_origin}
-use Rattle.course.specs.Reach.{Reaches, among, closure, from, ends, lost}
+use Rattle.walks.specs.Reach.{Reaches, among, closure, from}
+use Rattle.course.specs.Reach.{ends, lost}
 use Rattle.rows.specs.declared.row.Row.{Row}
 
 abbrev pub blanks : List Arrow → List Arrow

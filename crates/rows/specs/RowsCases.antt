@@ -15,7 +15,8 @@ use Rattle.expression.specs.Forms.{tree_at, tree_in, ins}
 use Rattle.course.specs.declared.course.Origin.{Origin}
 use Rattle.course.specs.declared.course.Origin.TheVariants.{Source, Constant}
 use Rattle.course.specs.Course.{Run, done, full, enter_node, enter_arrow, enter_frame, enter_comparison, each, each_at, nodes_for}
-use Rattle.course.specs.Reach.{reached, trues}
+use Rattle.walks.specs.Reach.{trues, lead}
+use Rattle.course.specs.Reach.{reached}
 use Rattle.course.specs.Sources.{graph}
 use Rattle.course.specs.Labels.{by_class}
 use Rattle.course.specs.Hubs.{slots}
@@ -24,7 +25,7 @@ use Rattle.rows.specs.declared.row.Row.{Row}
 use Rattle.rows.specs.Rows.{rows_at, shown, rows_of}
 
 unfoldable pub computes : Unit {0}
-unfolding tree_at tree_in ins enter_node enter_arrow enter_frame enter_comparison each each_at nodes_for reached trues forward labelled joint compared slots run_body turn recur eval merged rows_at shown
+unfolding tree_at tree_in ins enter_node enter_arrow enter_frame enter_comparison each each_at nodes_for reached lead trues forward labelled joint compared slots run_body turn recur eval merged rows_at shown
 computes = tt
 
 abbrev pub rows_in : Run ℕ → List Row

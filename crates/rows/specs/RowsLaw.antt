@@ -9,7 +9,8 @@ use Rattle.std.specs.Prelude.{◌≡◌, ℕ, ◌<◌, true, ◌⊎◌, ◌↔�
 use Rattle.std.specs.List.{AllByRecursion}
 use Rattle.course.specs.declared.course.Arrow.{Arrow}
 use Rattle.course.specs.Ends.{inside}
-use Rattle.course.specs.Reach.{In, ends, lost}
+use Rattle.walks.specs.Reach.{In}
+use Rattle.course.specs.Reach.{ends, lost}
 use Rattle.rows.specs.declared.row.Row.{Row}
 use Rattle.rows.specs.Rows.{Shows, row_of, rows_of}
 

@@ -1,6 +1,7 @@
 // Whether rows can be taken from arrows.
-ghost use Rattle.std.specs.Prelude.{◌≡◌, map};
-ghost use Rattle.course.specs.Ends.{inside};
+ghost use Rattle.std.specs.Prelude.{◌≡◌};
+ghost use Rattle.std.specs.List.{list_all};
+ghost use Rattle.course.specs.Ends.{joins};
 ghost use Rattle.course.specs.Reach.{ends};
 ghost use Rattle.rows.specs.Listing.{fits};
 
@@ -8,18 +9,16 @@ use course::course::{ARROWS, Arrow, NODES};
 
 // Whether both ends of every arrow are among the nodes.
 fn ends_inside(arrows: &[Arrow], nodes: usize) -> bool
-    ensures { result ≡ inside nodes (map ends arrows.now) }
+    ensures { result ≡ list_all (λ arrow. joins nodes (ends arrow)) arrows.now }
 {
-    for arrow in arrows {
-        if arrow.tail >= nodes || arrow.head >= nodes {
-            return false;
-        }
-    }
-    true
+    arrows
+        .iter()
+        .all(|arrow| arrow.tail < nodes && arrow.head < nodes)
 }
 
 // Whether there are no more nodes and arrows than a course has, and the root and both ends of every
 // arrow are among the nodes.
+#[tactic(auto, using(crate::proofs::Fits::inside_list_all))]
 pub(crate) fn fit(arrows: &[Arrow], nodes: usize, root: usize) -> bool
     ensures { result ≡ fits arrows.now nodes root }
 {

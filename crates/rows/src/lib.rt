@@ -1,11 +1,8 @@
 // The view of a course: its rows.
 #![tactic(auto)]
 
+mod blanks;
 mod fitting;
-mod links;
-mod listing;
-mod near;
 pub mod row;
 pub mod rows;
 mod shown;
-mod visits;

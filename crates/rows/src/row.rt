@@ -27,7 +27,7 @@ impl fmt::Display for Row {
 pub const ROWS: usize = 1024;
 
 // Why rows are not listed.
-#[derive(Clone, Copy)]
+#[derive(Clone, Copy, Debug, PartialEq, Eq)]
 pub enum RowsFault {
     // there are more nodes or arrows than a course has, or the root or an end of an arrow is no node
     Unfit,

@@ -1,54 +1,109 @@
 // The rows of a view: listed, counted and read.
-ghost use Rattle.std.specs.Prelude.{◌≡◌, ◌≤◌, true, [], length, IfOk, vec_len, vec_capacity};
-ghost use Rattle.std.specs.List.{slice_get};
-ghost use Rattle.rows.specs.Listing.{fits, listing, Answers};
-ghost use Rattle.rows.specs.Growing.{Grown};
-ghost use Rattle.rows.specs.Rows.{rows_of};
-ghost use Rattle.rows.specs.RowsLaw.{RowsLaw};
+ghost use Rattle.std.specs.Prelude.{◌≡◌, ◌≤◌, vec_len, vec_capacity};
 
+use crate::blanks::link;
 use crate::fitting::fit;
-use crate::links::link;
-use crate::listing::list_marked;
 use crate::row::{ROWS, Row, RowsFault};
-use crate::shown::mark_shown;
+use crate::shown::{Showing, leads};
 use course::course::Arrow;
 use std::alloc::{AllocError, Global};
+use walks::step_table::StepTable;
+use walks::walk::walk;
 
-// The rows that were listed last, in memory that is taken once, for as many as there can be.
+// The rows that were listed last and the blank arrows, in memory that is taken once, for as many as
+// there can be.
 #[derive(Drop)]
 pub struct Rows {
     rows: Vec<Row>,
+    blanks: StepTable,
     ghost room: { 1024 ≤ vec_capacity rows },
     ghost few: { vec_len rows ≤ 1024 },
 }
 
-// Adds the rows that the arrows show from the root.
-fn list_shown(
-    arrows: &[Arrow],
-    nodes: usize,
-    root: usize,
-    rows: &mut Vec<Row>,
-) -> Result<(), RowsFault>
-    requires fit { fits arrows.now nodes root ≡ true }
-    requires room { 1024 ≤ vec_capacity rows.old }
-    requires few { vec_len rows.old ≤ 1024 }
-    ensures rows { Grown rows.old.items (rows_of arrows.now nodes root) rows.new.items result }
-    ensures capacity { vec_capacity rows.new ≡ vec_capacity rows.old }
-    ensures len { vec_len rows.new ≤ 1024 }
-{
-    let links = link(arrows);
-    let mut shown = [false; 1024];
-    mark_shown(arrows, &links, root, &mut shown);
-    list_marked(arrows, &links, nodes, &shown, rows)
-}
-
 impl Rows {
+    ghost use Rattle.std.specs.Prelude.{true, false, [], length, filter, ◌==◌, slice_index_or, IfOk};
+    ghost use Rattle.std.specs.List.{flat_map, slice_get};
+    ghost use Rattle.walks.specs.Reach.{from};
+    ghost use Rattle.rows.specs.Growing.{Grown};
+    ghost use Rattle.rows.specs.Heads.{rows_by};
+    ghost use Rattle.rows.specs.Links.{Fit, Linked};
+    ghost use Rattle.rows.specs.Listing.{fits, listing, Answers};
+    ghost use Rattle.rows.specs.Rows.{rows_at, rows_of};
+    ghost use Rattle.rows.specs.RowsLaw.{RowsLaw};
+
     // No rows yet.
     pub fn new(heap: Global) -> Result<Rows, AllocError>
         ensures { IfOk result (λ rows. rows.rows.items ≡ []) }
     {
         let rows = Vec::with_capacity(heap, ROWS)?;
-        Ok(Rows { rows })
+        let blanks = StepTable::new(heap)?;
+        Ok(Rows { rows, blanks })
+    }
+
+    // Whether there is room for no more rows.
+    fn is_full(&self) -> bool
+        ensures { result ≡ (length self.now.rows.items == 1024) }
+    {
+        self.count() == ROWS
+    }
+
+    // Adds the rows of a node, by the marks of the nodes near it.
+    fn list_node(
+        &mut self,
+        arrows: &[Arrow],
+        near: &[bool; 1024],
+        node: usize,
+    ) -> Result<(), RowsFault>
+        ensures rows { Grown self.old.rows.items (rows_by near.now node arrows.now) self.new.rows.items result }
+        ensures blanks { self.new.blanks ≡ self.old.blanks }
+    {
+        for arrow in arrows {
+            if leads(*arrow, near) {
+                if self.is_full() {
+                    return Err(RowsFault::TooMany);
+                }
+                self.rows.push_reserved(Row {
+                    node,
+                    head: arrow.head,
+                    origin: arrow.origin,
+                    place: arrow.place,
+                    frame: arrow.frame,
+                });
+            }
+        }
+        Ok(())
+    }
+
+    // Adds the rows of the nodes that are marked, upwards.
+    fn list_marked(
+        &mut self,
+        arrows: &[Arrow],
+        nodes: usize,
+        shown: &[bool; 1024],
+    ) -> Result<(), RowsFault>
+        requires fit { Fit arrows.now }
+        requires linked { Linked arrows.now self.old.blanks }
+        requires nodes { nodes ≤ 1024 }
+        ensures { Grown self.old.rows.items (flat_map (rows_at arrows.now) (filter (λ v. slice_index_or shown.now v false) (from 0 nodes))) self.new.rows.items result }
+    {
+        for (node, is_shown) in shown[..nodes].iter().enumerate() {
+            if *is_shown {
+                let near = walk(&self.blanks, node);
+                self.list_node(arrows, &near, node)?;
+            }
+        }
+        Ok(())
+    }
+
+    // Adds the rows that the arrows show from the root.
+    fn list_shown(&mut self, arrows: &[Arrow], nodes: usize, root: usize) -> Result<(), RowsFault>
+        requires { fits arrows.now nodes root ≡ true }
+        ensures { Grown self.old.rows.items (rows_of arrows.now nodes root) self.new.rows.items result }
+    {
+        link(arrows, &mut self.blanks);
+        let blanks = &self.blanks;
+        let shown = walk(&Showing { arrows, blanks }, root);
+        self.list_marked(arrows, nodes, &shown)
     }
 
     // Lists the rows that the arrows show from the root, in the place of those that were listed.
@@ -62,7 +117,7 @@ impl Rows {
         if !fit(arrows, nodes, root) {
             return Err(RowsFault::Unfit);
         }
-        let answer = list_shown(arrows, nodes, root, &mut self.rows);
+        let answer = self.list_shown(arrows, nodes, root);
         if answer.is_err() {
             self.rows.clear();
         }

@@ -1,61 +1,47 @@
-// The nodes that are shown.
-ghost use Rattle.std.specs.Prelude.{◌≡◌, ◌<◌, length};
-ghost use Rattle.bounded.specs.Lists.{held};
-ghost use Rattle.rows.specs.Heads.{leads_by, heads_by};
+// The steps that rows make, from a shown node to the head of an arrow that leads on from it.
+ghost use Rattle.std.specs.Prelude.{◌≡◌, ◌<◌};
+ghost use Rattle.walks.specs.Reach.{Inside};
+ghost use Rattle.rows.specs.Heads.{leads_by};
 ghost use Rattle.rows.specs.Links.{Fit, Linked};
-ghost use Rattle.rows.specs.Rows.{steps};
-ghost use Rattle.rows.specs.Visits.{lead, marks_after, list_after, Lies, Ready};
+ghost use Rattle.rows.specs.Rows.{steps as steps_shown};
 
-use crate::links::{Links, is_blank};
-use crate::near::mark_near;
-use crate::visits::{mark, take_last};
-use bounded::list::Bounded;
+use crate::blanks::is_blank;
 use course::course::Arrow;
+use walks::step_table::StepTable;
+use walks::steps::Steps;
+use walks::visits::Visits;
+use walks::walk::walk;
+
+// Arrows, and the blank ones of them as steps.
+#[derive(Clone, Copy)]
+pub(crate) struct Showing<'a> {
+    pub(crate) arrows: &'a [Arrow],
+    pub(crate) blanks: &'a StepTable,
+    ghost fit: { Fit arrows.now },
+    ghost inside: { Inside 1024 (steps_shown arrows.now 1024) },
+    ghost linked: { Linked arrows.now blanks.now },
+}
 
 // Whether an arrow leads on from a node: it is not blank, and its tail is among those that are
 // near the node.
 pub(crate) fn leads(arrow: Arrow, near: &[bool; 1024]) -> bool
-    requires { arrow.tail < 1024 }
     ensures { result ≡ leads_by near.now arrow }
 {
-    !is_blank(arrow.origin) && near[arrow.tail]
+    !is_blank(arrow.origin) && near.get(arrow.tail) == Some(&true)
 }
 
-// Marks and lists the heads of the arrows that lead on from a node, by the nodes near it.
-fn mark_heads(
-    arrows: &[Arrow],
-    near: &[bool; 1024],
-    shown: &mut [bool; 1024],
-    todo: &mut Bounded<'_, usize>,
-)
-    requires fit { Fit arrows.now }
-    requires ready { Ready shown.old todo.old }
-    ensures marked { shown.new ≡ marks_after (heads_by near.now arrows.now) shown.old }
-    ensures list { held todo.new ≡ list_after (heads_by near.now arrows.now) shown.old (held todo.old) }
-    ensures lies { Lies todo.old todo.new }
-{
-    for arrow in arrows {
-        if leads(*arrow, near) {
-            mark(arrow.head, shown, todo);
+impl Steps for Showing<'_> {
+    ghost steps = { λ showing. steps_shown showing.arrows.now 1024 };
+
+    // Visits the heads of the arrows that lead on from the node.
+    fn visit_heads(&self, node: usize, visits: &mut Visits) {
+        let near = walk(self.blanks, node);
+        for arrow in self.arrows {
+            if leads(*arrow, &near) {
+                visits.visit(arrow.head);
+            }
         }
     }
-}
 
-// Marks the nodes that are shown from the root.
-pub(crate) fn mark_shown(arrows: &[Arrow], links: &Links, root: usize, shown: &mut [bool; 1024])
-    requires fit { Fit arrows.now }
-    requires linked { Linked arrows.now (length arrows.now) links.now.first links.now.next }
-    requires within { root < 1024 }
-    ensures { shown.new ≡ lead 1024 (steps arrows.now 1024) root }
-{
-    *shown = [false; 1024];
-    let mut near = [false; 1024];
-    let mut near_slots = [0; 1024];
-    let mut slots = [0; 1024];
-    let mut todo = Bounded::new(&mut slots);
-    mark(root, shown, &mut todo);
-    while let Some(node) = take_last(&mut todo) {
-        mark_near(arrows, links, node, &mut near, &mut near_slots);
-        mark_heads(arrows, &near, shown, &mut todo);
-    }
+    ghost inside = { λ showing. showing.inside };
 }

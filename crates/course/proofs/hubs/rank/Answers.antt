@@ -1,6 +1,6 @@
 use Rattle.std.proofs.Common.{◌≡◌, ◌+◌, ◌<◌, ◌≤◌, false, ◌≢◌, length, get_or, take, sym, ap, ◌∙◌, arith, rules, below_more}
 use Rattle.std.proofs.lemmas.List.{get_or-set_same, get_or-set_other, take_all}
-use Rattle.course.specs.Reach.{trues}
+use Rattle.walks.specs.Reach.{trues}
 use Rattle.course.proofs.Ranks.{counted, trues_more, trues_none, trues_taken}
 use Rattle.course.proofs.hubs.rank.Goals as goal
 

@@ -1,5 +1,5 @@
 use Rattle.std.proofs.Common.{◌≡◌, ℕ, ◌<◌, get_or, take}
-use Rattle.course.specs.Reach.{trues}
+use Rattle.walks.specs.Reach.{trues}
 use Rattle.course.proofs.hubs.rank.Given as goal
 
 abbrev pub invariant-loop-v : goal.invariant-loop-v

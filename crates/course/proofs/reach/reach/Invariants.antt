@@ -1,6 +1,6 @@
 use Rattle.std.proofs.Common.{◌≡◌, ◌+◌, ◌-◌, ◌≤◌, length, vec_items}
 use Rattle.bounded.specs.Lists.{held, room}
-use Rattle.course.specs.Reach.{trues}
+use Rattle.walks.specs.Reach.{trues}
 use Rattle.course.specs.Walk.{Walk}
 use Rattle.course.proofs.reach.reach.Given as goal
 

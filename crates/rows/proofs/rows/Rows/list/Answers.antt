@@ -16,9 +16,9 @@ returns-then-not-fit c =
 pub returns-then-is_err : goal.returns-then-is_err
 returns-then-is_err c =
     record {
-      answer = many_told c.args.arrows.now c.args.nodes c.args.root (vec_items c.clear-then-is_err.new.self) (vec_items c.list_shown-answer.new.rows) c.list_shown-answer.result
+      answer = many_told c.args.arrows.now c.args.nodes c.args.root (vec_items c.clear-then-is_err.new.self) (vec_items c.list_shown-answer.new.self.rows) c.list_shown-answer.result
           (sym c.if-not-fit.ensures)
-          (subst (λ (before : List Row). Grown before (rows_of c.args.arrows.now c.args.nodes c.args.root) (vec_items c.list_shown-answer.new.rows) c.list_shown-answer.result) c.clear.ensures.items c.list_shown-answer.ensures.rows)
+          (subst (λ (before : List Row). Grown before (rows_of c.args.arrows.now c.args.nodes c.args.root) (vec_items c.list_shown-answer.new.self.rows) c.list_shown-answer.result) c.clear.ensures.items c.list_shown-answer.ensures)
           (sym c.if-is_err.ensures.value) c.clear-then-is_err.ensures.items;
       law = rows_law;
     }
@@ -26,9 +26,9 @@ returns-then-is_err c =
 pub returns-else-is_err : goal.returns-else-is_err
 returns-else-is_err c =
     record {
-      answer = few_told c.args.arrows.now c.args.nodes c.args.root (vec_items c.list_shown-answer.new.rows) c.list_shown-answer.result
+      answer = few_told c.args.arrows.now c.args.nodes c.args.root (vec_items c.list_shown-answer.new.self.rows) c.list_shown-answer.result
           (sym c.if-not-fit.ensures)
-          (subst (λ (before : List Row). Grown before (rows_of c.args.arrows.now c.args.nodes c.args.root) (vec_items c.list_shown-answer.new.rows) c.list_shown-answer.result) c.clear.ensures.items c.list_shown-answer.ensures.rows)
+          (subst (λ (before : List Row). Grown before (rows_of c.args.arrows.now c.args.nodes c.args.root) (vec_items c.list_shown-answer.new.self.rows) c.list_shown-answer.result) c.clear.ensures.items c.list_shown-answer.ensures)
           (sym c.if-is_err.ensures.value);
       law = rows_law;
     }

@@ -1,0 +1,5 @@
+pub mod Chains
+pub mod Marking
+pub mod Members
+pub mod Reaching
+pub mod Walking

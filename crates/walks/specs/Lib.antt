@@ -1,0 +1,4 @@
+pub mod Chains
+pub mod Reach
+pub mod Tables
+pub mod Visits
