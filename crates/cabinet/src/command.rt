@@ -24,11 +24,11 @@ fn kind_name(word: &str) -> Option<KindName> {
     }
 }
 
-// The command that a verb and its kind ask for.
-fn asked(verb: &str, kind: Option<&str>) -> Option<Command> {
-    match (verb, kind) {
-        ("labels", Some(kind)) => Some(Command::Labels(kind_name(kind)?)),
-        ("expression", None | Some("")) => Some(Command::Expression),
+// The command that a verb and its kind ask for; a verb without a kind has the empty one.
+fn asked(verb: &str, kind: &str) -> Option<Command> {
+    match verb {
+        "labels" => Some(Command::Labels(kind_name(kind)?)),
+        "expression" if kind.is_empty() => Some(Command::Expression),
         _ => None,
     }
 }
@@ -37,11 +37,12 @@ fn asked(verb: &str, kind: Option<&str>) -> Option<Command> {
 pub fn from_arguments(rt: &HostRuntime) -> io::Result<Option<Command>> {
     let mut arguments = env::args(rt)?;
     let _program = arguments.next();
-    let (Some(verb), kind) = (arguments.next(), arguments.next()) else {
-        return Ok(None);
-    };
+    let none = String::new(rt.alloc());
+    let verb = arguments.next().unwrap_or(none);
+    let no_kind = String::new(rt.alloc());
+    let kind = arguments.next().unwrap_or(no_kind);
     if arguments.next().is_some() {
         return Ok(None);
     }
-    Ok(asked(&verb, kind.as_deref()))
+    Ok(asked(verb.as_str(), kind.as_str()))
 }
