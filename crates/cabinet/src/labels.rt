@@ -1,6 +1,6 @@
 // `cabinet labels`: which lines are labels, and which labels are the same.
 use kinds::filed::{FiledLabel, TEXT_SIZE};
-use listing::answer::{Answer, list_labels};
+use listing::answer::{Classified, list_labels};
 use listing::totals::count_answers;
 use std::io::Read;
 use std::str::from_utf8;
@@ -9,13 +9,12 @@ use std::str::from_utf8;
 fn print_label<L: FiledLabel>(
     rt: &HostRuntime,
     line: usize,
-    label: &L,
-    class: usize,
+    known: &Classified<L>,
 ) -> anyhow::Result<()> {
     let mut buffer = [0u8; TEXT_SIZE];
-    let len = label.write_text(&mut buffer).unwrap_or(0).min(TEXT_SIZE);
-    let text = from_utf8(&buffer[0..len])?;
-    println!(rt; "label {line} {text} class {class}")?;
+    let len = known.label.write_text(&mut buffer).unwrap_or(0);
+    let text = from_utf8(&buffer[..len])?;
+    println!(rt; "label {line} {text} class {}", known.class)?;
     Ok(())
 }
 
@@ -23,20 +22,17 @@ fn print_label<L: FiledLabel>(
 pub fn sort_out<L: FiledLabel>(rt: &HostRuntime) -> anyhow::Result<()> {
     let mut input = Vec::new(rt.alloc());
     rt.stdin().read_to_end(&mut input)?;
-    let answers = list_labels::<L>(rt.alloc(), input.as_slice())?;
+    let answers = list_labels::<L>(rt.alloc(), &input)?;
     for (line, answer) in answers.iter().enumerate() {
         match answer {
-            Answer::Label(label, class) => print_label(rt, line, label, *class)?,
-            Answer::Refused(refusal) => {
-                let number = refusal.number();
-                println!(rt; "refused {line} {number}")?;
-            }
+            Ok(known) => print_label(rt, line, known)?,
+            Err(refusal) => println!(rt; "refused {line} {refusal}")?,
         }
     }
-    let totals = count_answers(answers.as_slice());
-    let labels = totals.labels;
-    let distinct = totals.distinct;
-    let refused = totals.refused;
-    println!(rt; "labels {labels} distinct {distinct} refused {refused}")?;
+    let totals = count_answers(&answers);
+    println!(rt;
+        "labels {} distinct {} refused {}",
+        totals.labels, totals.distinct, totals.refused
+    )?;
     Ok(())
 }

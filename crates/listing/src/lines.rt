@@ -1,8 +1,9 @@
 // The lines of a text.
-ghost use Rattle.std.specs.Prelude.{◌≡◌, ℕ, ◌<◌, ◌≤◌, List, ◌∷◌, length, take, drop, ◌≢◌, slice_index};
+ghost use Rattle.std.specs.Prelude.{◌≡◌, ℕ, ◌<◌, ◌≤◌, length, ◌≢◌, slice_index};
+ghost use Rattle.std.specs.Iterator.{YieldsFirstRef, item_count};
 ghost use Rattle.listing.specs.Lines.{lines_of};
 
-const LINE_END: u8 = 10;
+const LINE_END: u8 = b'\n';
 
 // How many bytes stand before the first line end, or in all where there is none.
 fn line_len(text: &[u8]) -> usize
@@ -10,22 +11,29 @@ fn line_len(text: &[u8]) -> usize
     ensures before { (k : ℕ) → k < result → slice_index text.now k ≢ 10 }
     ensures found { result < length text.now → slice_index text.now result ≡ 10 }
 {
-    for (i, byte) in text.iter().enumerate() {
-        if *byte == LINE_END {
-            return i;
-        }
-    }
-    text.len()
+    text.iter()
+        .position(|&byte| byte == LINE_END)
+        .unwrap_or(text.len())
 }
 
-// The first line of a text that is not empty, without its line end, and how many bytes the line
-// takes up with it.
-pub(crate) fn first_line(text: &[u8]) -> (usize, usize)
-    requires { 0 < length text.now }
-    ensures some { 0 < result.1 }
-    ensures bound { (result.0 ≤ length text.now) × (result.1 ≤ length text.now) }
-    ensures first { lines_of text.now ≡ take result.0 text.now ∷ lines_of (drop result.1 text.now) }
-{
-    let len = line_len(text);
-    (len, (len + 1).min(text.len()))
+// The lines of a text from its first on, without their line ends.
+#[derive(Debug, Drop)]
+pub(crate) struct Lines<'a>(pub(crate) &'a [u8]);
+
+impl<'a> Iterator for Lines<'a> {
+    type Item = &'a [u8];
+
+    ghost next_gives = { YieldsFirstRef (λ text. lines_of text.0.now) };
+
+    ghost remaining = { item_count (λ text. lines_of text.0.now) };
+
+    fn next(&mut self) -> Option<&'a [u8]> {
+        let text = self.0;
+        if text.is_empty() {
+            return None;
+        }
+        let len = line_len(text);
+        self.0 = text.get(len + 1..).unwrap_or(&[]);
+        Some(&text[..len])
+    }
 }

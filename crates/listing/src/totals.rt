@@ -1,11 +1,11 @@
 // How many lines of each sort a list has.
-ghost use Rattle.std.specs.Prelude.{◌≡◌, ◌+◌, ◌^◌, ◌<◌, ◌≤◌, [], ◌∷◌};
-ghost use Rattle.listing.specs.Totals.{labels_in, distinct_in, refused_in};
+ghost use Rattle.std.specs.Prelude.{◌≡◌};
+ghost use Rattle.listing.specs.Totals.{first_of_class, labels_in, distinct_in, refused_in};
 
 use crate::answer::Answer;
 use kinds::label::Label;
 
-#[derive(Clone, Copy, Debug, PartialEq)]
+#[derive(Clone, Copy, Debug, PartialEq, Eq, Hash)]
 pub struct Totals {
     // lines that are labels
     pub labels: usize,
@@ -15,24 +15,13 @@ pub struct Totals {
     pub refused: usize,
 }
 
-// One line more is counted, the one with this number.
-fn one_more<L: Label>(totals: Totals, line: usize, answer: &Answer<L>) -> Totals
-    requires { (totals.labels ≤ line) × ((totals.distinct ≤ line) × ((totals.refused ≤ line) × (line + 1 < 2 ^ 64))) }
-    ensures labels { result.labels ≡ totals.labels + labels_in (answer.now ∷ []) }
-    ensures distinct { result.distinct ≡ totals.distinct + distinct_in line (answer.now ∷ []) }
-    ensures refused { result.refused ≡ totals.refused + refused_in (answer.now ∷ []) }
-    ensures bound { (result.labels ≤ line + 1) × (result.distinct ≤ line + 1) × (result.refused ≤ line + 1) }
+// Whether a line is a label that no lower line has.
+fn is_first<L: Label>(line: usize, answer: &Answer<L>) -> bool
+    ensures { result ≡ first_of_class line answer.now }
 {
-    match *answer {
-        Answer::Label(_, class) => Totals {
-            labels: totals.labels + 1,
-            distinct: totals.distinct + usize::from(class == line),
-            refused: totals.refused,
-        },
-        Answer::Refused(_) => Totals {
-            refused: totals.refused + 1,
-            ..totals
-        },
+    match answer {
+        Ok(known) => known.class == line,
+        Err(_) => false,
     }
 }
 
@@ -42,13 +31,13 @@ pub fn count_answers<L: Label>(answers: &[Answer<L>]) -> Totals
     ensures distinct { result.distinct ≡ distinct_in 0 answers.now }
     ensures refused { result.refused ≡ refused_in answers.now }
 {
-    let mut totals = Totals {
-        labels: 0,
-        distinct: 0,
-        refused: 0,
-    };
-    for (i, answer) in answers.iter().enumerate() {
-        totals = one_more(totals, i, answer);
+    Totals {
+        labels: answers.iter().filter(|answer| answer.is_ok()).count(),
+        distinct: answers
+            .iter()
+            .enumerate()
+            .filter(|(line, answer)| is_first(*line, answer))
+            .count(),
+        refused: answers.iter().filter(|answer| answer.is_err()).count(),
     }
-    totals
 }
