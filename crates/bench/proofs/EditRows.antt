@@ -4,7 +4,7 @@ use Rattle.std.proofs.lemmas.Bool.{cases_lt, eq-eqb, ne_eqb, eqb-true, both_ways
 use Rattle.std.proofs.lemmas.List.{length-set, length-take, get_or-take, get_or-drop, drop_all, same_lists, take_more_set, drop_more, drop-set-lt, drop-drop, take-take}
 use Rattle.std.proofs.lemmas.List.Edits.{length-remove, get_or-remove_below, get_or-remove_above}
 use Rattle.rows.specs.declared.row.Row.{Row}
-use Rattle.bench.specs.Model.{insert, remove, edited}
+use Rattle.editing.specs.Model.{insert, remove, edited}
 use Rattle.bench.specs.Reading.{edits_of, no_row}
 
 -- an insertion, one entry further

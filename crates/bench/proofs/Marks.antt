@@ -4,13 +4,13 @@ use Rattle.std.specs.List.{slice_get}
 use Rattle.std.proofs.lemmas.Bool.{cond-true, cond-false, and_parts, both_ways, le-leb, lt-leb}
 use Rattle.rows.specs.declared.row.Row.{Row}
 use Rattle.bench.specs.declared.bench.Bench.{Bench}
-use Rattle.bench.specs.declared.refusal.Refusal.TheVariants.{NoSuchEntry, FullDraft}
-use Rattle.bench.specs.declared.request.Edit.{Edit}
-use Rattle.bench.specs.declared.request.Request.TheVariants.{Mark}
-use Rattle.bench.specs.declared.request.Answer.TheVariants.{Done}
-use Rattle.bench.specs.Drafts.{label_in}
-use Rattle.bench.specs.Model.{Response, drafts, refuse, found, fits, insert, edited, shows, marked, decide_open}
-use Rattle.bench.specs.Machine.{Desk, seen, with}
+use Rattle.editing.specs.declared.refusal.Refusal.TheVariants.{NoSuchEntry, FullDraft}
+use Rattle.editing.specs.declared.request.Edit.{Edit}
+use Rattle.editing.specs.declared.request.Request.TheVariants.{Mark}
+use Rattle.editing.specs.declared.request.Answer.TheVariants.{Done}
+use Rattle.editing.specs.Drafts.{label_in}
+use Rattle.editing.specs.Model.{Response, drafts, refuse, found, fits, insert, edited, shows, marked, decide_open}
+use Rattle.editing.specs.Machine.{Desk, seen, with}
 use Rattle.bench.specs.Reading.{desk, rows_of, labels_of, draft_edits, draft_of}
 
 -- a slip that fits

@@ -3,13 +3,13 @@ use Rattle.std.proofs.Common.{◌≡◌, ℕ, Bool, true, false, cond, List, IsE
 use Rattle.std.proofs.lemmas.Result.{err_from_is_err_and}
 use Rattle.std.proofs.lemmas.Bool.{cond-true, cond-false}
 use Rattle.bench.specs.declared.bench.Bench.{Bench}
-use Rattle.bench.specs.declared.refusal.Refusal.{Refusal}
-use Rattle.bench.specs.declared.refusal.Refusal.TheVariants.{ShortTable, NothingOpened}
-use Rattle.bench.specs.declared.request.Request.{Request}
-use Rattle.bench.specs.declared.request.Answer.{Answer}
-use Rattle.bench.specs.declared.request.Answer.TheVariants as answer
-use Rattle.bench.specs.Model.{Response, refuse, decide_open}
-use Rattle.bench.specs.Machine.{Desk, seen, perform, step}
+use Rattle.editing.specs.declared.refusal.Refusal.{Refusal}
+use Rattle.editing.specs.declared.refusal.Refusal.TheVariants.{ShortTable, NothingOpened}
+use Rattle.editing.specs.declared.request.Request.{Request}
+use Rattle.editing.specs.declared.request.Answer.{Answer}
+use Rattle.editing.specs.declared.request.Answer.TheVariants as answer
+use Rattle.editing.specs.Model.{Response, refuse, decide_open}
+use Rattle.editing.specs.Machine.{Desk, seen, perform, step}
 use Rattle.bench.specs.Reading.{is_opened, desk, short, ready, handed, said}
 use Rattle.bench.proofs.Stored.{ready_ok}
 

@@ -5,7 +5,7 @@ use Rattle.std.proofs.lemmas.Bool.{or_parts, ltb-false}
 use Rattle.rows.specs.declared.row.Row.{Row}
 use Rattle.bench.specs.declared.bench.Bench.{Bench}
 use Rattle.bench.specs.Reading.{ends_of, short, ready, no_row, edits_of, draft_edits, commits_of}
-use Rattle.bench.proofs.Relabelling.{no_path}
+use Rattle.editing.proofs.Relabelling.{no_path}
 
 -- the tables of a call that is ready are long enough
 pub record Long {L : Type 0} (b : Bench) (ls cs qs hs : List L) : Type 0 where

@@ -33,15 +33,15 @@ use Rattle.bench.specs.declared.bench.Bench.{Bench}
 use Rattle.bench.specs.declared.bench.Slip.{Slip}
 use Rattle.bench.specs.declared.drafting.Abandoned.{Abandoned}
 use Rattle.bench.specs.declared.drafting.Abandoned.TheVariants.{Closed, Returned}
-use Rattle.bench.specs.declared.refusal.Refusal.{Refusal}
-use Rattle.bench.specs.declared.refusal.Refusal.TheVariants.{ShortTable, NothingOpened}
-use Rattle.bench.specs.declared.request.Edit.{Edit}
-use Rattle.bench.specs.declared.request.Request.{Request}
-use Rattle.bench.specs.declared.request.Answer.{Answer}
-use Rattle.bench.specs.declared.request.Answer.TheVariants as answer
-use Rattle.bench.specs.Drafts.{Labelling, label_in}
-use Rattle.bench.specs.Model.{Call}
-use Rattle.bench.specs.Machine.{Kept, Desk}
+use Rattle.editing.specs.declared.refusal.Refusal.{Refusal}
+use Rattle.editing.specs.declared.refusal.Refusal.TheVariants.{ShortTable, NothingOpened}
+use Rattle.editing.specs.declared.request.Edit.{Edit}
+use Rattle.editing.specs.declared.request.Request.{Request}
+use Rattle.editing.specs.declared.request.Answer.{Answer}
+use Rattle.editing.specs.declared.request.Answer.TheVariants as answer
+use Rattle.editing.specs.Drafts.{Labelling, label_in}
+use Rattle.editing.specs.Model.{Call}
+use Rattle.editing.specs.Machine.{Kept, Desk}
 
 abbrev pub is_opened : Option Source → Bool
 is_opened None = false

@@ -1,15 +1,15 @@
 // What a bench tells of its draft and its history.
 ghost use Rattle.std.specs.Prelude.{◌≡◌, slice_index_or};
 ghost use Rattle.std.specs.List.{slice_get};
-ghost use Rattle.bench.specs.declared.request.Request.TheVariants as ask;
-ghost use Rattle.bench.specs.declared.request.Answer.TheVariants as answer;
-ghost use Rattle.bench.specs.Machine.{step};
+ghost use Rattle.editing.specs.declared.request.Request.TheVariants as ask;
+ghost use Rattle.editing.specs.declared.request.Answer.TheVariants as answer;
+ghost use Rattle.editing.specs.Machine.{step};
 ghost use Rattle.bench.specs.Reading.{desk, short, handed, said, rows_of, draft_edits, no_row};
 
 use crate::bench::Bench;
 use crate::labels::entry_below;
-use crate::refusal::Refusal;
-use crate::request::{Commits, Edit};
+use editing::refusal::Refusal;
+use editing::request::{Commits, Edit};
 use course::course::Origin;
 use kinds::label::Label;
 

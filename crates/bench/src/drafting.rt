@@ -1,11 +1,11 @@
 // Opening a draft and giving it up.
 ghost use Rattle.std.specs.Prelude.{◌≡◌, ◌&&◌, ◌==◌};
-ghost use Rattle.bench.specs.declared.request.Request.TheVariants as ask;
-ghost use Rattle.bench.specs.Machine.{step};
+ghost use Rattle.editing.specs.declared.request.Request.TheVariants as ask;
+ghost use Rattle.editing.specs.Machine.{step};
 ghost use Rattle.bench.specs.Reading.{desk, short, handed, begun, dropped};
 
 use crate::bench::{Bench, Slip};
-use crate::refusal::Refusal;
+use editing::refusal::Refusal;
 use kinds::label::Label;
 
 // How abandon ends: the draft is closed and the slip spent, or the slip is handed back.

@@ -1,7 +1,7 @@
 // The edits of a draft, as their rows, upwards, and the labels asked.
 ghost use Rattle.std.specs.Prelude.{◌≡◌, ℕ, ◌+◌, ◌<◌, ◌≤◌, true, ◌&&◌, ◌⊎◌, List, ◌∷◌, ◌++◌, length, get_or, take, drop, ◌==◌, nat_lt, slice_index, slice_index_or};
 ghost use Rattle.rows.specs.declared.row.Row.{Row};
-ghost use Rattle.bench.specs.Model.{insert, remove, edited};
+ghost use Rattle.editing.specs.Model.{insert, remove, edited};
 ghost use Rattle.bench.specs.Reading.{edits_of, no_row};
 
 use kinds::label::Label;

@@ -1,7 +1,7 @@
 // Labels found in the tables.
 ghost use Rattle.std.specs.Prelude.{◌≡◌, take};
 ghost use Rattle.std.specs.List.{slice_get};
-ghost use Rattle.bench.specs.Drafts.{label_in};
+ghost use Rattle.editing.specs.Drafts.{label_in};
 ghost use Rattle.bench.specs.Reading.{labels_of};
 
 use crate::bench::Bench;

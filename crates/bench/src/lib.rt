@@ -9,7 +9,4 @@ mod edits;
 mod labels;
 pub mod marking;
 pub mod readings;
-pub mod refusal;
-pub mod request;
-pub mod run_laws;
 pub mod tables;

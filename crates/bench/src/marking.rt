@@ -1,13 +1,13 @@
 // Asking a label for a row.
 ghost use Rattle.std.specs.Prelude.{◌≡◌};
-ghost use Rattle.bench.specs.declared.request.Request.TheVariants as ask;
-ghost use Rattle.bench.specs.Machine.{step};
-ghost use Rattle.bench.specs.Model.{shows as shows_label};
+ghost use Rattle.editing.specs.declared.request.Request.TheVariants as ask;
+ghost use Rattle.editing.specs.Machine.{step};
+ghost use Rattle.editing.specs.Model.{shows as shows_label};
 ghost use Rattle.bench.specs.Reading.{desk, short, handed, told};
 
 use crate::bench::{Bench, Slip};
 use crate::edits::{drop_edit, is_edited, put_edit};
-use crate::refusal::Refusal;
+use editing::refusal::Refusal;
 use kinds::label::Label;
 
 // How many edits a draft holds.

@@ -1,15 +1,15 @@
 // What a bench tells: rows, the course, the source.
 ghost use Rattle.std.specs.Prelude.{◌≡◌, length, take};
 ghost use Rattle.std.specs.List.{slice_get};
-ghost use Rattle.bench.specs.declared.request.Request.TheVariants as ask;
-ghost use Rattle.bench.specs.declared.request.Answer.TheVariants as answer;
-ghost use Rattle.bench.specs.Machine.{step};
+ghost use Rattle.editing.specs.declared.request.Request.TheVariants as ask;
+ghost use Rattle.editing.specs.declared.request.Answer.TheVariants as answer;
+ghost use Rattle.editing.specs.Machine.{step};
 ghost use Rattle.bench.specs.Reading.{desk, short, handed, said, rows_of, labels_of, row_shown, arrow_shown, ends_of};
 
 use crate::bench::Bench;
 use crate::labels::entry_below;
-use crate::refusal::Refusal;
-use crate::request::Counts;
+use editing::refusal::Refusal;
+use editing::request::Counts;
 use crate::tables::count_arrows;
 use course::course::{Arrow, Comparison, Frame, Node};
 use course::source::Source;

@@ -3,7 +3,7 @@ ghost use Rattle.std.specs.Prelude.{◌≡◌, length};
 ghost use Rattle.bench.specs.Reading.{is_opened, ends_of, short as too_short, ready as readiness};
 
 use crate::bench::Bench;
-use crate::refusal::Refusal;
+use editing::refusal::Refusal;
 use course::source::Source;
 use kinds::label::Label;
 

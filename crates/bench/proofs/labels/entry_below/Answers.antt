@@ -1,5 +1,5 @@
 use Rattle.std.proofs.Common.{sym}
-use Rattle.bench.proofs.Relabelling.{nth_below, nth_beyond}
+use Rattle.editing.proofs.Relabelling.{nth_below, nth_beyond}
 use Rattle.bench.proofs.labels.entry_below.Goals as goal
 
 pub returns-then-index-entries : goal.returns-then-index-entries

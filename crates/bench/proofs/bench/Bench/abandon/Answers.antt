@@ -1,5 +1,5 @@
 use Rattle.std.proofs.Common.{sym, ◌∙◌}
-use Rattle.bench.specs.declared.request.Request.TheVariants.{Abandon}
+use Rattle.editing.specs.declared.request.Request.TheVariants.{Abandon}
 use Rattle.bench.specs.Reading.{desk, short}
 use Rattle.bench.proofs.Readiness.{unready}
 use Rattle.bench.proofs.bench.Bench.abandon.Goals as goal

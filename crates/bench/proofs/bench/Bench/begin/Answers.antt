@@ -1,5 +1,5 @@
 use Rattle.std.proofs.Common.{sym, refl, ◌∙◌}
-use Rattle.bench.specs.declared.request.Request.TheVariants.{Begin}
+use Rattle.editing.specs.declared.request.Request.TheVariants.{Begin}
 use Rattle.bench.specs.Reading.{begun}
 use Rattle.bench.proofs.Readiness.{unready_exit}
 use Rattle.bench.proofs.bench.Bench.begin.Goals as goal

@@ -1,8 +1,8 @@
 use Rattle.std.proofs.Common.{ℕ, sym, refl, ap, ◌∙◌}
-use Rattle.bench.specs.declared.request.Request.TheVariants as ask
-use Rattle.bench.specs.declared.request.Answer.TheVariants as answer
+use Rattle.editing.specs.declared.request.Request.TheVariants as ask
+use Rattle.editing.specs.declared.request.Answer.TheVariants as answer
 use Rattle.bench.proofs.Readiness.{unread, decided}
-use Rattle.bench.specs.Model.{says}
+use Rattle.editing.specs.Model.{says}
 use Rattle.bench.specs.Reading.{desk, short}
 use Rattle.bench.proofs.Stored.{undone_length}
 use Rattle.bench.proofs.bench.Bench.commits.Goals as goal

@@ -1,8 +1,8 @@
 use Rattle.std.proofs.Common.{ℕ, Bool, Some, sym, refl, ap, ◌∙◌}
-use Rattle.bench.specs.declared.request.Request.TheVariants as ask
-use Rattle.bench.specs.declared.request.Answer.TheVariants as answer
+use Rattle.editing.specs.declared.request.Request.TheVariants as ask
+use Rattle.editing.specs.declared.request.Answer.TheVariants as answer
 use Rattle.bench.proofs.Readiness.{unread, decided}
-use Rattle.bench.specs.Model.{says, how_many}
+use Rattle.editing.specs.Model.{says, how_many}
 use Rattle.bench.specs.Reading.{desk, short, draft_of, draft_edits}
 use Rattle.bench.proofs.Stored.{ready_ok, long_enough, draft_length}
 use Rattle.bench.proofs.bench.Bench.draft.Goals as goal

@@ -2,10 +2,10 @@ use Rattle.std.proofs.Common.{◌≡◌, false, not, ◌&&◌, leb, length, Some
 use Rattle.std.specs.Result.{result_ok}
 use Rattle.std.proofs.lemmas.Bool.{and_parts}
 use Rattle.rows.specs.declared.row.Row.{Row}
-use Rattle.bench.specs.declared.refusal.Refusal.TheVariants.{FullDraft}
-use Rattle.bench.specs.declared.request.Request.TheVariants.{Mark}
-use Rattle.bench.specs.declared.request.Answer.TheVariants.{Done}
-use Rattle.bench.specs.Model.{drafts, refuse, insert, edited, shows}
+use Rattle.editing.specs.declared.refusal.Refusal.TheVariants.{FullDraft}
+use Rattle.editing.specs.declared.request.Request.TheVariants.{Mark}
+use Rattle.editing.specs.declared.request.Answer.TheVariants.{Done}
+use Rattle.editing.specs.Model.{drafts, refuse, insert, edited, shows}
 use Rattle.bench.specs.Reading.{desk, short, told, rows_of, draft_edits}
 use Rattle.bench.proofs.Marks.{room_there, room_new, no_room, drafted, mark_full, mark_new}
 use Rattle.bench.proofs.Readiness.{unready_exit, decided}

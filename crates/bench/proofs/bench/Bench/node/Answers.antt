@@ -1,6 +1,6 @@
 use Rattle.std.proofs.Common.{sym, ◌∙◌}
-use Rattle.bench.specs.declared.request.Request.TheVariants as ask
-use Rattle.bench.specs.declared.request.Answer.TheVariants as answer
+use Rattle.editing.specs.declared.request.Request.TheVariants as ask
+use Rattle.editing.specs.declared.request.Answer.TheVariants as answer
 use Rattle.bench.proofs.Readiness.{unread}
 use Rattle.bench.proofs.bench.Bench.node.Goals as goal
 
