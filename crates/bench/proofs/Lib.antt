@@ -1,4 +1,3 @@
-pub mod EditRows
-pub mod Marks
-pub mod Readiness
+pub mod Calls
+pub mod DraftEdits
 pub mod Stored

@@ -1,2 +1,4 @@
+pub mod Edits
+pub mod Places
 pub mod Reading
 pub mod Sound

@@ -3,9 +3,11 @@
 #![tactic(auto)]
 
 pub mod bench;
+pub mod draft;
 pub mod draft_readings;
 pub mod drafting;
-mod edits;
+mod entries;
+pub mod history;
 mod labels;
 pub mod marking;
 pub mod readings;

@@ -1,24 +1,31 @@
-use Rattle.std.proofs.Common.{take, Some, sym, ap, ◌∙◌}
+use Rattle.std.proofs.Common.{◌≡◌, take, Some, None, sym, ap, ◌∙◌}
+use Rattle.std.specs.List.{slice_get}
 use Rattle.course.specs.declared.course.Origin.{Origin}
 use Rattle.bench.specs.Reading.{rows_of}
-use Rattle.bench.proofs.Stored.{no_row_lem, no_label, an_edit}
+use Rattle.bench.proofs.Stored.{row_missing, label_missing, edit_there}
 use Rattle.bench.proofs.bench.Bench.edit_at.Goals as goal
 
 pub returns-in_err-row : goal.returns-in_err-row
 returns-in_err-row g c =
     let b = c.args.self.now in
-    c.from_residual.ensures
-    ∙ sym (no_row_lem (rows_of b) (take b.edits b.edit_rows) (take b.edits c.args.asked.now) c.args.index (sym c.entry_below.ensures ∙ c.in_err-row.was))
+    let d = c.in_ok-draft.draft in
+    let no_row : slice_get (take d.count d.rows) c.args.index ≡ None = sym c.entry_below.ensures ∙ c.in_err-row.was in
+    c.from_residual-in_err-row.ensures ∙ sym (row_missing (rows_of b) b.draft d c.args.asked.now c.args.index c.in_ok-draft.was no_row)
 
-pub returns-in_err-label : goal.returns-in_err-label
-returns-in_err-label g c =
+pub returns-in_err-asked : goal.returns-in_err-asked
+returns-in_err-asked g c =
     let b = c.args.self.now in
-    c.from_residual-in_err-label.ensures
-    ∙ sym (no_label (rows_of b) (take b.edits b.edit_rows) (take b.edits c.args.asked.now) c.args.index (sym c.entry_below-2.ensures ∙ c.in_err-label.was))
+    let d = c.in_ok-draft.draft in
+    let no_label : slice_get (take d.count c.args.asked.now) c.args.index ≡ None = sym c.entry_below-2.ensures ∙ c.in_err-asked.was in
+    c.from_residual-in_err-asked.ensures ∙ sym (label_missing (rows_of b) b.draft d c.args.asked.now c.args.index c.in_ok-draft.was no_label)
 
 pub returns : goal.returns
 returns g c =
     let b = c.args.self.now in
-    ap (λ (o : Origin). Some (record { row = c.in_ok-row.row; origin = o; asked = c.in_ok-label.label })) c.origin_of.ensures
-    ∙ sym (an_edit (rows_of b) (take b.edits b.edit_rows) (take b.edits c.args.asked.now) c.args.index c.in_ok-row.row c.in_ok-label.label
-    (sym c.entry_below.ensures ∙ c.in_ok-row.was) (sym c.entry_below-2.ensures ∙ c.in_ok-label.was))
+    let d = c.in_ok-draft.draft in
+    let r = c.in_ok-row.row in
+    let l = c.in_ok-asked.asked in
+    let a_row : slice_get (take d.count d.rows) c.args.index ≡ Some r = sym c.entry_below.ensures ∙ c.in_ok-row.was in
+    let a_label : slice_get (take d.count c.args.asked.now) c.args.index ≡ Some l = sym c.entry_below-2.ensures ∙ c.in_ok-asked.was in
+    ap (λ (o : Origin). Some (record { row = r; origin = o; asked = l })) c.origin_of.ensures
+    ∙ sym (edit_there (rows_of b) b.draft d c.args.asked.now c.args.index c.in_ok-draft.was r l a_row a_label)
