@@ -1,5 +1,5 @@
 -- What a call does on the machine, once its first checks pass. Assumes nothing.
-use Rattle.std.proofs.Common.{◌≡◌, ℕ, ◌≤◌, Bool, true, false, cond, not, ◌&&◌, eqb, ltb, leb, List, length, Some, None, Ok, Err, Option, Result, sym, refl, ap, ◌∙◌}
+use Rattle.std.proofs.Common.{◌≡◌, ℕ, ◌≤◌, Bool, true, false, cond, not, ◌&&◌, eqb, ltb, leb, List, length, Some, None, Ok, Err, Option, Result, is_some, sym, refl, ap, ◌∙◌}
 use Rattle.std.specs.List.{slice_get}
 use Rattle.std.specs.Option.{option_map_or}
 use Rattle.std.proofs.lemmas.Bool.{or_parts, ltb-false, cond-true, cond-false}
@@ -18,7 +18,7 @@ use Rattle.editing.specs.Machine.{Desk, seen, with, perform, step}
 use Rattle.bench.specs.declared.bench.Bench.{Bench}
 use Rattle.bench.specs.declared.draft.Draft.{Draft}
 use Rattle.bench.specs.Edits.{edit_for, edits_of, room_for}
-use Rattle.bench.specs.Reading.{Lists, is_opened, ends_of, rows_of, draft_of, labels_of, desk, short, ready, admitted, handed, Steps}
+use Rattle.bench.specs.Reading.{Lists, ends_of, rows_of, draft_of, labels_of, desk, short, ready, admitted, handed, Steps}
 
 ready_ok : (s o : Bool) → ready s o ≡ Ok tt → (s ≡ false) × (o ≡ true)
 ready_ok true o h = absurd cc
@@ -58,7 +58,7 @@ module _ {L : Type 0} (alike : L → L → Bool) where
         ap (λ (z : Option Draft). fits (draft_of (rows_of b) z t.asked) (eqb n b.number) (λ es. found (slice_get (rows_of b) r) NoSuchEntry (λ x. marked alike (seen (desk b t)) x r l es))) open_draft
         ∙ cond-true (eqb n b.number) _ _ fit ∙ ap (λ (z : Option Row). found z NoSuchEntry k) there
 
-    pub mark_shown : (d' : Draft) (ls : List L) → ready (short b t) (is_opened b.source) ≡ Ok tt → shows alike (label_in (labels_of b t) row.origin) l ≡ true →
+    pub mark_shown : (d' : Draft) (ls : List L) → ready (short b t) (is_some b.source) ≡ Ok tt → shows alike (label_in (labels_of b t) row.origin) l ≡ true →
         edits_of (rows_of b) d' ls ≡ remove r (edits_of (rows_of b) d t.asked) → Steps alike n (Mark r l) b t (record b { draft = Some d' }) (record t { asked = ls }) Done
     mark_shown d' ls h shown e = decided (short b t) n (Mark r l) (desk b t) _ _ Done h (begins ∙ cond-true _ _ _ shown) (drafted _ _ e) refl
 
@@ -66,7 +66,7 @@ module _ {L : Type 0} (alike : L → L → Bool) where
     has_room true h = absurd cc
     has_room false h = refl
 
-    pub mark_other : (d' : Draft) (ls : List L) → ready (short b t) (is_opened b.source) ≡ Ok tt → shows alike (label_in (labels_of b t) row.origin) l ≡ false →
+    pub mark_other : (d' : Draft) (ls : List L) → ready (short b t) (is_some b.source) ≡ Ok tt → shows alike (label_in (labels_of b t) row.origin) l ≡ false →
         Ok tt ≡ room_for r (edits_of (rows_of b) d t.asked) → edits_of (rows_of b) d' ls ≡ insert (edit_for (rows_of b) r l) (edits_of (rows_of b) d t.asked) →
         Steps alike n (Mark r l) b t (record b { draft = Some d' }) (record t { asked = ls }) Done
     mark_other d' ls h other room e =

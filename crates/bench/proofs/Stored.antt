@@ -4,7 +4,7 @@ use Rattle.std.specs.List.{slice_get}
 use Rattle.std.specs.Option.{option_map}
 use Rattle.std.proofs.lemmas.List.{length-take, length-drop}
 use Rattle.rows.specs.declared.row.Row.{Row}
-use Rattle.editing.specs.Model.{how_many, edit_at}
+use Rattle.editing.specs.Model.{how_many}
 use Rattle.bench.specs.declared.draft.Draft.{Draft}
 use Rattle.bench.specs.declared.history.History.{History}
 use Rattle.bench.specs.Edits.{edit_for, paired_edits}
@@ -12,19 +12,19 @@ use Rattle.bench.specs.Reading.{draft_of, commits_of, history_of}
 use Rattle.bench.proofs.DraftEdits.{edits_length}
 
 module _ {L : Type 0} (rows : List Row) where
-  no_row : (rs : List ℕ) (ls : List L) (i : ℕ) → slice_get rs i ≡ None → slice_get (paired_edits rows rs ls) i ≡ None
+  pub no_row : (rs : List ℕ) (ls : List L) (i : ℕ) → slice_get rs i ≡ None → slice_get (paired_edits rows rs ls) i ≡ None
   no_row [] ls i h = refl
   no_row (r ∷ rs) [] i h = refl
   no_row (r ∷ rs) (l ∷ ls) zero h = cc
   no_row (r ∷ rs) (l ∷ ls) (suc i) h = no_row rs ls i h
 
-  no_label : (rs : List ℕ) (ls : List L) (i : ℕ) → slice_get ls i ≡ None → slice_get (paired_edits rows rs ls) i ≡ None
+  pub no_label : (rs : List ℕ) (ls : List L) (i : ℕ) → slice_get ls i ≡ None → slice_get (paired_edits rows rs ls) i ≡ None
   no_label [] ls i h = refl
   no_label (r ∷ rs) [] i h = refl
   no_label (r ∷ rs) (l ∷ ls) zero h = cc
   no_label (r ∷ rs) (l ∷ ls) (suc i) h = no_label rs ls i h
 
-  an_edit : (rs : List ℕ) (ls : List L) (i r : ℕ) (l : L) → slice_get rs i ≡ Some r → slice_get ls i ≡ Some l → slice_get (paired_edits rows rs ls) i ≡ Some (edit_for rows r l)
+  pub an_edit : (rs : List ℕ) (ls : List L) (i r : ℕ) (l : L) → slice_get rs i ≡ Some r → slice_get ls i ≡ Some l → slice_get (paired_edits rows rs ls) i ≡ Some (edit_for rows r l)
   an_edit [] ls i r l h k = cc
   an_edit (x ∷ rs) [] i r l h k = cc
   an_edit (x ∷ rs) (y ∷ ls) zero r l h k =
@@ -32,20 +32,6 @@ module _ {L : Type 0} (rows : List Row) where
       let q : y ≡ l = cc in
       ap (λ z. Some (edit_for rows z y)) p ∙ ap (λ z. Some (edit_for rows r z)) q
   an_edit (x ∷ rs) (y ∷ ls) (suc i) r l h k = an_edit rs ls i r l h k
-
-  -- the edits of an open draft
-  module _ (o : Option Draft) (d : Draft) (ls : List L) (i : ℕ) (open_draft : o ≡ Some d) where
-    opened : edit_at (draft_of rows o ls) i ≡ slice_get (paired_edits rows (take d.count d.rows) (take d.count ls)) i
-    opened = ap (λ z. edit_at (draft_of rows z ls) i) open_draft
-
-    pub row_missing : slice_get (take d.count d.rows) i ≡ None → edit_at (draft_of rows o ls) i ≡ None
-    row_missing h = opened ∙ no_row (take d.count d.rows) (take d.count ls) i h
-
-    pub label_missing : slice_get (take d.count ls) i ≡ None → edit_at (draft_of rows o ls) i ≡ None
-    label_missing h = opened ∙ no_label (take d.count d.rows) (take d.count ls) i h
-
-    pub edit_there : (r : ℕ) (l : L) → slice_get (take d.count d.rows) i ≡ Some r → slice_get (take d.count ls) i ≡ Some l → edit_at (draft_of rows o ls) i ≡ Some (edit_for rows r l)
-    edit_there r l h k = opened ∙ an_edit (take d.count d.rows) (take d.count ls) i r l h k
 
   pub edits_counted : (o : Option Draft) (ls : List L) → 32 ≤ length ls → how_many (draft_of rows o ls) ≡ option_map (λ d. d.count) o
   edits_counted None ls h = refl
@@ -58,8 +44,8 @@ commits_length i (n ∷ ns) arrows hs = ap suc (commits_length (i + n) ns arrows
 -- how many commits are undone
 pub undone_length : {L : Type 0} (h : History) (hs : List L) → length (drop h.standing (history_of h hs)) ≡ h.undone
 undone_length h hs =
-    let room = h.size_room in
-    let few = h.count.0 in
+    let room = h.sizes_room in
+    let few = h.few in
     let all = commits_length 0 (take (h.standing + h.undone) h.sizes) h.arrows hs in
     let taken : length (take (h.standing + h.undone) h.sizes) ≡ h.standing + h.undone = simp length-take (omega arith) in
     simp length-drop (omega arith)

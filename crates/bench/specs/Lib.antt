@@ -1,4 +1,3 @@
 pub mod Edits
 pub mod Places
 pub mod Reading
-pub mod Sound

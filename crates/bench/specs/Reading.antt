@@ -2,10 +2,9 @@
 --
 --   Lists L              what four tables hold: labels, constants, asked, history. A bench is read with any four tables
 --   lists_of t           what the tables t hold
---   is_opened s          whether a source is opened
 --   ends_of s            the arrows of the source; none where nothing is opened
 --   rows_of b            the rows that the bench holds
---   draft_of rows d ls   the draft: the edits of d, if one is open, with the labels ls of the table
+--   draft_of rows o ls   the draft: the edits of the draft o, if one is open, with the labels ls of the table
 --   kept_of              changes by their arrows, old labels and new labels
 --   commit_at i n ..     a commit of n changes from change i on: its old labels stand in the history table from i on, its new
 --                        ones from 256 + i on
@@ -27,7 +26,8 @@
 --   row_shown ls w       the row w, if there is one, with its label
 --   arrow_shown a l      the source arrow a, if there is one, with the label l
 --   dropped              what abandon answers
-use Rattle.std.specs.Prelude.{◌≡◌, ℕ, ◌+◌, Bool, true, false, cond, ◌||◌, List, [], ◌∷◌, length, take, drop, Some, None, Ok, Err, vec_items, Option, Result, nat_lt}
+use Rattle.std.specs.Prelude.{◌≡◌, ℕ, ◌+◌, Bool, cond, ◌||◌, List, [], ◌∷◌, length, take, drop, Some, None, Ok, Err, vec_items, Option, Result, nat_lt, is_some}
+use Rattle.std.specs.Option.{option_map}
 use Rattle.course.specs.declared.source.Source.{Source}
 use Rattle.course.specs.Sources.{graph_of}
 use Rattle.course.specs.View.{course_of}
@@ -49,10 +49,6 @@ use Rattle.bench.specs.declared.history.History.{History}
 use Rattle.bench.specs.declared.tables.Tables.{Tables}
 use Rattle.bench.specs.Edits.{edits_of}
 
-abbrev pub is_opened : Option Source → Bool
-is_opened None = false
-is_opened (Some s) = true
-
 abbrev pub ends_of : Option Source → List (ℕ × ℕ)
 ends_of None = []
 ends_of (Some s) = (graph_of s).arrows
@@ -71,8 +67,7 @@ module _ {L : Type 0} where
   lists_of t = record { labels = t.labels.now; constants = t.constants.now; asked = t.asked.now; history = t.history.now }
 
   abbrev pub draft_of : List Row → Option Draft → List L → Option (List (Edit L))
-  draft_of rows None ls = None
-  draft_of rows (Some d) ls = Some (edits_of rows d ls)
+  draft_of rows o ls = option_map (λ d. edits_of rows d ls) o
 
   abbrev pub kept_of : List ℕ → List L → List L → List (Kept L)
   kept_of [] olds news = []
@@ -96,7 +91,7 @@ module _ {L : Type 0} where
   abbrev pub desk : Bench → Lists L → Desk L
   desk b t =
       record {
-        is_open = is_opened b.source;
+        is_open = is_some b.source;
         number = b.number;
         ends = ends_of b.source;
         course = course_of b.workspace;

@@ -1,9 +1,12 @@
 // The edits of a draft: put in, taken out, read.
 ghost use Rattle.std.specs.Prelude.{◌≡◌, ◌≤◌, List, length, OnOk, OnErr};
 
-use crate::entries::{find, insert_at, remove_at};
+use crate::entries::{entry_below, find, insert_at, remove_at};
+use course::course::Origin;
 use editing::refusal::Refusal;
+use editing::request::Edit;
 use kinds::label::Label;
+use rows::rows::Rows;
 
 // How many edits a draft holds.
 pub const EDITS: usize = 32;
@@ -20,6 +23,7 @@ pub struct Draft {
 }
 
 impl Draft {
+    ghost use Rattle.std.specs.List.{slice_get};
     ghost use Rattle.rows.specs.declared.row.Row.{Row};
     ghost use Rattle.editing.specs.Model.{insert, remove};
     ghost use Rattle.bench.specs.Edits.{edit_for, edits_of, room_for};
@@ -32,6 +36,16 @@ impl Draft {
             count: 0,
             rows: [0; 32],
         }
+    }
+
+    // An edit by its number, counted from the lowest row on. The draft's rows are those handed in.
+    pub(crate) fn edit<L: Label>(&self, index: usize, rows: &Rows, asked: &[L]) -> Option<Edit<L>>
+        ensures { result ≡ slice_get (edits_of rows.now.rows.items self.now asked.now) index }
+    {
+        let row = entry_below(&self.rows, self.count, index)?;
+        let asked = entry_below(asked, self.count, index)?;
+        let origin = rows.get(row).map_or(Origin::Blank, |row| row.origin);
+        Some(Edit { row, origin, asked })
     }
 
     // Removes the row's edit, if it has one.

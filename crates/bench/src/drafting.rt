@@ -1,7 +1,7 @@
 // Opening a draft and giving it up.
-ghost use Rattle.std.specs.Prelude.{◌≡◌, ◌==◌};
+ghost use Rattle.std.specs.Prelude.{◌≡◌, ◌==◌, is_some};
 ghost use Rattle.editing.specs.declared.request.Request.TheVariants as ask;
-ghost use Rattle.bench.specs.Reading.{is_opened, lists_of, short, ready as readiness, admitted, Steps, begun, dropped};
+ghost use Rattle.bench.specs.Reading.{lists_of, short, ready as readiness, admitted, Steps, begun, dropped};
 
 use crate::bench::{Bench, Slip};
 use crate::draft::Draft;
@@ -23,7 +23,7 @@ impl Bench {
         slip: &Slip,
         tables: &Tables<L>,
     ) -> Result<Draft, Refusal>
-        ensures { result ≡ admitted (readiness (short self.now (lists_of tables.now)) (is_opened self.now.source)) (slip.now.number == self.now.number) self.now.draft }
+        ensures { result ≡ admitted (readiness (short self.now (lists_of tables.now)) (is_some self.now.source)) (slip.now.number == self.now.number) self.now.draft }
     {
         self.ready(tables)?;
         self.draft

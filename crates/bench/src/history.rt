@@ -1,6 +1,5 @@
 // What a history holds.
-ghost use Rattle.std.specs.Prelude.{◌≡◌, length};
-ghost use Rattle.bench.specs.Sound.{Counted};
+ghost use Rattle.std.specs.Prelude.{◌≡◌, ◌+◌, ◌≤◌, length, take, sum};
 
 // Commits in their order, first those that stand, then those that are undone. The labels of their
 // changes lie in a table of the caller.
@@ -16,7 +15,10 @@ pub struct History {
     pub(crate) total: usize,
     // the arrow of each change
     pub(crate) arrows: [usize; 256],
-    ghost size_room: { length sizes ≡ 64 },
-    ghost change_room: { length arrows ≡ 256 },
-    ghost count: { Counted standing undone sizes changes total },
+    ghost sizes_room: { length sizes ≡ 64 },
+    ghost arrows_room: { length arrows ≡ 256 },
+    ghost few: { standing + undone ≤ 64 },
+    ghost few_changes: { total ≤ 256 },
+    ghost counted: { changes ≡ sum (take standing sizes) },
+    ghost all_counted: { total ≡ sum (take (standing + undone) sizes) },
 }

@@ -5,7 +5,7 @@ ghost use Rattle.bench.specs.Reading.{lists_of, labels_of};
 
 use crate::bench::Bench;
 use crate::entries::entry_below;
-use crate::tables::{Tables, count_arrows};
+use crate::tables::Tables;
 use course::course::Origin;
 use kinds::label::Label;
 
@@ -16,9 +16,7 @@ impl Bench {
     {
         match origin {
             Origin::Blank => None,
-            Origin::Source(arrow) => {
-                entry_below(tables.labels, count_arrows(&self.source), arrow)
-            }
+            Origin::Source(arrow) => { entry_below(tables.labels, self.count_arrows(), arrow) }
             Origin::Constant(constant) => {
                 entry_below(tables.constants, self.constants, constant)
             }

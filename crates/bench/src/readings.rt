@@ -7,7 +7,7 @@ ghost use Rattle.bench.specs.Reading.{Reads, lists_of, said, rows_of, labels_of,
 
 use crate::bench::Bench;
 use crate::entries::entry_below;
-use crate::tables::{Tables, count_arrows};
+use crate::tables::Tables;
 use course::course::{Arrow, Comparison, Frame, Node};
 use editing::refusal::Refusal;
 use editing::request::Counts;
@@ -30,7 +30,7 @@ impl Bench {
             result ≡ arrow_shown (slice_get ends arrow) (slice_get (take (length ends) labels.now) arrow) }
     {
         let ends = self.source.as_ref()?.ends(arrow)?;
-        let label = entry_below(labels, count_arrows(&self.source), arrow)?;
+        let label = entry_below(labels, self.count_arrows(), arrow)?;
         Some((ends, label))
     }
 
@@ -42,6 +42,7 @@ impl Bench {
         self.shown_row(index, tables).ok_or(Refusal::NoSuchEntry)
     }
 
+    // Kept apart by list: each reading is the checks and one call, and a helper would say no less.
     // A node of the course.
     pub fn node<L: Label>(&self, number: usize, tables: &Tables<L>) -> Result<Node, Refusal>
         ensures { Reads L.alike (ask.Node number) self.now (lists_of tables.now) (said (λ x. answer.Node x) result) }
@@ -105,7 +106,7 @@ impl Bench {
             arrows: sizes.arrows,
             frames: sizes.frames,
             comparisons: sizes.comparisons,
-            source_arrows: count_arrows(&self.source),
+            source_arrows: self.count_arrows(),
         })
     }
 }

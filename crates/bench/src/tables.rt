@@ -1,10 +1,9 @@
 // The tables that every call is handed.
-ghost use Rattle.std.specs.Prelude.{◌≡◌, length};
-ghost use Rattle.bench.specs.Reading.{is_opened, ends_of, lists_of, short, ready as readiness};
+ghost use Rattle.std.specs.Prelude.{◌≡◌, length, is_some};
+ghost use Rattle.bench.specs.Reading.{ends_of, lists_of, short, ready as readiness};
 
 use crate::bench::Bench;
 use crate::draft::EDITS;
-use course::source::Source;
 use editing::refusal::Refusal;
 use kinds::label::Label;
 
@@ -27,24 +26,24 @@ impl<L: Label> Tables<'_, L> {
     fn is_short(&self, bench: &Bench) -> bool
         ensures { result ≡ short bench.now (lists_of self.now) }
     {
-        self.labels.len() < count_arrows(&bench.source)
+        self.labels.len() < bench.count_arrows()
             || self.constants.len() < bench.constants
             || self.asked.len() < ASKED
             || self.history.len() < HISTORY
     }
 }
 
-// How many arrows the source has; none where nothing is opened.
-pub(crate) fn count_arrows(source: &Option<Source>) -> usize
-    ensures { result ≡ length (ends_of source.now) }
-{
-    source.as_ref().map_or(0, |source| source.arrows())
-}
-
 impl Bench {
+    // How many arrows the source has; none where nothing is opened.
+    pub(crate) fn count_arrows(&self) -> usize
+        ensures { result ≡ length (ends_of self.now.source) }
+    {
+        self.source.as_ref().map_or(0, |source| source.arrows())
+    }
+
     // The first checks of every call: the tables are long enough, and something is opened.
     pub(crate) fn ready<L: Label>(&self, tables: &Tables<L>) -> Result<(), Refusal>
-        ensures { result ≡ readiness (short self.now (lists_of tables.now)) (is_opened self.now.source) }
+        ensures { result ≡ readiness (short self.now (lists_of tables.now)) (is_some self.now.source) }
     {
         if tables.is_short(self) {
             return Err(Refusal::ShortTable);
