@@ -1,11 +1,3 @@
-pub mod Cases
-pub mod EditRows
-pub mod Editing
-pub mod Editor
-pub mod Histories
-pub mod Marks
-pub mod Readiness
-pub mod Relabelling
-pub mod RowLabels
-pub mod Simulation
+pub mod Calls
+pub mod DraftEdits
 pub mod Stored

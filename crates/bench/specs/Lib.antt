@@ -1,9 +1,3 @@
-pub mod Cases
-pub mod Drafts
-pub mod Editor
-pub mod Law
-pub mod Machine
-pub mod Model
+pub mod Edits
+pub mod Places
 pub mod Reading
-pub mod Refusals
-pub mod Sound

@@ -1,70 +1,59 @@
 // Opening a draft and giving it up.
-ghost use Rattle.std.specs.Prelude.{◌≡◌, ◌&&◌, ◌==◌};
-ghost use Rattle.bench.specs.declared.request.Request.TheVariants as ask;
-ghost use Rattle.bench.specs.Machine.{step};
-ghost use Rattle.bench.specs.Reading.{desk, short, handed, begun, dropped};
+ghost use Rattle.std.specs.Prelude.{◌≡◌, ◌==◌, is_some};
+ghost use Rattle.editing.specs.declared.request.Request.TheVariants as ask;
+ghost use Rattle.bench.specs.Reading.{lists_of, short, ready as readiness, admitted, Steps, begun, dropped};
 
 use crate::bench::{Bench, Slip};
-use crate::refusal::Refusal;
+use crate::draft::Draft;
+use crate::tables::Tables;
+use editing::refusal::Refusal;
 use kinds::label::Label;
 
-// How abandon ends: the draft is closed and the slip spent, or the slip is handed back.
-pub enum Abandoned {
-    Closed,
-    Returned(Refusal, Slip),
+// A refused call that takes a slip hands it back.
+pub struct Returned {
+    pub refusal: Refusal,
+    pub slip: Slip,
 }
 
 impl Bench {
-    // Whether the slip fits: a draft is open, and the slip has the bench's number.
-    pub(crate) fn fits(&self, slip: &Slip) -> bool
-        ensures { result ≡ (self.now.drafting && slip.now.number == self.now.number) }
+    // The first checks of a call with a slip: it is ready, a draft is open, and the slip has the
+    // bench's number. It goes on with that draft.
+    pub(crate) fn draft_for<L: Label>(
+        &self,
+        slip: &Slip,
+        tables: &Tables<L>,
+    ) -> Result<Draft, Refusal>
+        ensures { result ≡ admitted (readiness (short self.now (lists_of tables.now)) (is_some self.now.source)) (slip.now.number == self.now.number) self.now.draft }
     {
-        self.drafting && slip.number == self.number
+        self.ready(tables)?;
+        self.draft
+            .filter(|_| slip.number == self.number)
+            .ok_or(Refusal::SlipUnfit)
     }
 
     // Opens a draft without edits.
-    pub fn begin<L: Label>(
-        &mut self,
-        labels: &[L],
-        constants: &[L],
-        asked: &[L],
-        history: &[L],
-    ) -> Result<Slip, Refusal>
-        ensures { (desk self.new labels.now constants.now asked.now history.now, begun result)
-            ≡ step L.alike (handed (short self.old labels.now constants.now asked.now history.now) 0 ask.Begin)
-            (desk self.old labels.now constants.now asked.now history.now) }
+    pub fn begin<L: Label>(&mut self, tables: &Tables<L>) -> Result<Slip, Refusal>
+        ensures { Steps L.alike 0 ask.Begin self.old (lists_of tables.now) self.new (lists_of tables.now) (begun result) }
     {
-        self.ready(labels, constants, asked, history)?;
-        if self.drafting {
+        self.ready(tables)?;
+        if self.draft.is_some() {
             return Err(Refusal::DraftOpen);
         }
-        self.drafting = true;
-        self.edits = 0;
-        let number = self.number;
-        Ok(Slip { number })
+        self.draft = Some(Draft::new());
+        Ok(Slip {
+            number: self.number,
+        })
     }
 
-    // Closes the draft, and nothing else changes.
-    pub fn abandon<L: Label>(
-        &mut self,
-        slip: Slip,
-        labels: &[L],
-        constants: &[L],
-        asked: &[L],
-        history: &[L],
-    ) -> Abandoned
-        ensures { (desk self.new labels.now constants.now asked.now history.now, dropped result)
-            ≡ step L.alike (handed (short self.old labels.now constants.now asked.now history.now) slip.number ask.Abandon)
-            (desk self.old labels.now constants.now asked.now history.now) }
+    // Closes the draft, and nothing else changes. A refusal hands the slip back.
+    pub fn abandon<L: Label>(&mut self, slip: Slip, tables: &Tables<L>) -> Result<(), Returned>
+        ensures { Steps L.alike slip.number ask.Abandon self.old (lists_of tables.now) self.new (lists_of tables.now) (dropped result) }
     {
-        if let Err(refusal) = self.ready(labels, constants, asked, history) {
-            return Abandoned::Returned(refusal, slip);
-        }
-        if !self.fits(&slip) {
-            return Abandoned::Returned(Refusal::SlipUnfit, slip);
+        if let Err(refusal) = self.draft_for(&slip, tables) {
+            return Err(Returned { refusal, slip });
         }
         let Slip { number: _ } = slip;
-        self.drafting = false;
-        Abandoned::Closed
+        self.draft = None;
+        Ok(())
     }
 }

@@ -3,13 +3,12 @@
 #![tactic(auto)]
 
 pub mod bench;
+pub mod draft;
 pub mod draft_readings;
 pub mod drafting;
-mod edits;
+mod entries;
+pub mod history;
 mod labels;
 pub mod marking;
 pub mod readings;
-pub mod refusal;
-pub mod request;
-pub mod run_laws;
 pub mod tables;

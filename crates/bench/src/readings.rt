@@ -1,120 +1,69 @@
 // What a bench tells: rows, the course, the source.
 ghost use Rattle.std.specs.Prelude.{◌≡◌, length, take};
 ghost use Rattle.std.specs.List.{slice_get};
-ghost use Rattle.bench.specs.declared.request.Request.TheVariants as ask;
-ghost use Rattle.bench.specs.declared.request.Answer.TheVariants as answer;
-ghost use Rattle.bench.specs.Machine.{step};
-ghost use Rattle.bench.specs.Reading.{desk, short, handed, said, rows_of, labels_of, row_shown, arrow_shown, ends_of};
+ghost use Rattle.editing.specs.declared.request.Request.TheVariants as ask;
+ghost use Rattle.editing.specs.declared.request.Answer.TheVariants as answer;
+ghost use Rattle.bench.specs.Reading.{Reads, lists_of, said, rows_of, labels_of, row_shown, arrow_shown, ends_of};
 
 use crate::bench::Bench;
-use crate::labels::entry_below;
-use crate::refusal::Refusal;
-use crate::request::Counts;
-use crate::tables::count_arrows;
+use crate::entries::entry_below;
+use crate::tables::Tables;
 use course::course::{Arrow, Comparison, Frame, Node};
-use course::source::Source;
+use editing::refusal::Refusal;
+use editing::request::Counts;
 use kinds::label::Label;
 use rows::row::Row;
 
-// The tail and the head of a source arrow, if something is opened and has it.
-fn ends(source: &Option<Source>, arrow: usize) -> Option<(usize, usize)>
-    ensures { result ≡ slice_get (ends_of source.now) arrow }
-{
-    match source {
-        Some(source) => source.ends(arrow),
-        None => None,
-    }
-}
-
-// A source arrow with its label.
-fn shown_arrow<L: Label>(
-    source: &Option<Source>,
-    arrow: usize,
-    labels: &[L],
-) -> Option<((usize, usize), L)>
-    ensures { result ≡ arrow_shown (slice_get (ends_of source.now) arrow) (slice_get (take (length (ends_of source.now)) labels.now) arrow) }
-{
-    let ends = ends(source, arrow)?;
-    let label = entry_below(labels, count_arrows(source), arrow)?;
-    Some((ends, label))
-}
-
 impl Bench {
     // A row with its label.
-    fn shown_row<L: Label>(&self, index: usize, labels: &[L], constants: &[L]) -> Option<(Row, L)>
-        ensures { result ≡ row_shown (labels_of self.now labels.now constants.now) (slice_get (rows_of self.now) index) }
+    fn shown_row<L: Label>(&self, index: usize, tables: &Tables<L>) -> Option<(Row, L)>
+        ensures { result ≡ row_shown (labels_of self.now (lists_of tables.now)) (slice_get (rows_of self.now) index) }
     {
         let row = self.rows.get(index)?;
-        let label = self.label_of(row.origin, labels, constants)?;
+        let label = self.label_of(row.origin, tables)?;
         Some((row, label))
     }
 
-    // A row of the view, with its present label.
-    pub fn row<L: Label>(
-        &self,
-        index: usize,
-        labels: &[L],
-        constants: &[L],
-        asked: &[L],
-        history: &[L],
-    ) -> Result<(Row, L), Refusal>
-        ensures { (desk self.now labels.now constants.now asked.now history.now, said (λ x. answer.Row x.0 x.1) result)
-            ≡ step L.alike (handed (short self.now labels.now constants.now asked.now history.now) 0 (ask.Row index))
-            (desk self.now labels.now constants.now asked.now history.now) }
+    // A source arrow, if something is opened and has it, with its label.
+    fn shown_arrow<L: Label>(&self, arrow: usize, labels: &[L]) -> Option<((usize, usize), L)>
+        ensures { let ends = ends_of self.now.source in
+            result ≡ arrow_shown (slice_get ends arrow) (slice_get (take (length ends) labels.now) arrow) }
     {
-        self.ready(labels, constants, asked, history)?;
-        self.shown_row(index, labels, constants)
-            .ok_or(Refusal::NoSuchEntry)
+        let ends = self.source.as_ref()?.ends(arrow)?;
+        let label = entry_below(labels, self.count_arrows(), arrow)?;
+        Some((ends, label))
     }
 
-    // A node of the course.
-    pub fn node<L: Label>(
-        &self,
-        number: usize,
-        labels: &[L],
-        constants: &[L],
-        asked: &[L],
-        history: &[L],
-    ) -> Result<Node, Refusal>
-        ensures { (desk self.now labels.now constants.now asked.now history.now, said (λ x. answer.Node x) result)
-            ≡ step L.alike (handed (short self.now labels.now constants.now asked.now history.now) 0 (ask.Node number))
-            (desk self.now labels.now constants.now asked.now history.now) }
+    // A row of the view, with its present label.
+    pub fn row<L: Label>(&self, index: usize, tables: &Tables<L>) -> Result<(Row, L), Refusal>
+        ensures { Reads L.alike (ask.Row index) self.now (lists_of tables.now) (said (λ x. answer.Row x.0 x.1) result) }
     {
-        self.ready(labels, constants, asked, history)?;
+        self.ready(tables)?;
+        self.shown_row(index, tables).ok_or(Refusal::NoSuchEntry)
+    }
+
+    // Kept apart by list: each reading is the checks and one call, and a helper would say no less.
+    // A node of the course.
+    pub fn node<L: Label>(&self, number: usize, tables: &Tables<L>) -> Result<Node, Refusal>
+        ensures { Reads L.alike (ask.Node number) self.now (lists_of tables.now) (said (λ x. answer.Node x) result) }
+    {
+        self.ready(tables)?;
         self.workspace.node(number).ok_or(Refusal::NoSuchEntry)
     }
 
     // An arrow of the course.
-    pub fn arrow<L: Label>(
-        &self,
-        number: usize,
-        labels: &[L],
-        constants: &[L],
-        asked: &[L],
-        history: &[L],
-    ) -> Result<Arrow, Refusal>
-        ensures { (desk self.now labels.now constants.now asked.now history.now, said (λ x. answer.Arrow x) result)
-            ≡ step L.alike (handed (short self.now labels.now constants.now asked.now history.now) 0 (ask.Arrow number))
-            (desk self.now labels.now constants.now asked.now history.now) }
+    pub fn arrow<L: Label>(&self, number: usize, tables: &Tables<L>) -> Result<Arrow, Refusal>
+        ensures { Reads L.alike (ask.Arrow number) self.now (lists_of tables.now) (said (λ x. answer.Arrow x) result) }
     {
-        self.ready(labels, constants, asked, history)?;
+        self.ready(tables)?;
         self.workspace.arrow(number).ok_or(Refusal::NoSuchEntry)
     }
 
     // A frame of the course.
-    pub fn frame<L: Label>(
-        &self,
-        number: usize,
-        labels: &[L],
-        constants: &[L],
-        asked: &[L],
-        history: &[L],
-    ) -> Result<Frame, Refusal>
-        ensures { (desk self.now labels.now constants.now asked.now history.now, said (λ x. answer.Frame x) result)
-            ≡ step L.alike (handed (short self.now labels.now constants.now asked.now history.now) 0 (ask.Frame number))
-            (desk self.now labels.now constants.now asked.now history.now) }
+    pub fn frame<L: Label>(&self, number: usize, tables: &Tables<L>) -> Result<Frame, Refusal>
+        ensures { Reads L.alike (ask.Frame number) self.now (lists_of tables.now) (said (λ x. answer.Frame x) result) }
     {
-        self.ready(labels, constants, asked, history)?;
+        self.ready(tables)?;
         self.workspace.frame(number).ok_or(Refusal::NoSuchEntry)
     }
 
@@ -122,16 +71,11 @@ impl Bench {
     pub fn comparison<L: Label>(
         &self,
         number: usize,
-        labels: &[L],
-        constants: &[L],
-        asked: &[L],
-        history: &[L],
+        tables: &Tables<L>,
     ) -> Result<Comparison, Refusal>
-        ensures { (desk self.now labels.now constants.now asked.now history.now, said (λ x. answer.Comparison x) result)
-            ≡ step L.alike (handed (short self.now labels.now constants.now asked.now history.now) 0 (ask.Comparison number))
-            (desk self.now labels.now constants.now asked.now history.now) }
+        ensures { Reads L.alike (ask.Comparison number) self.now (lists_of tables.now) (said (λ x. answer.Comparison x) result) }
     {
-        self.ready(labels, constants, asked, history)?;
+        self.ready(tables)?;
         self.workspace
             .comparison(number)
             .ok_or(Refusal::NoSuchEntry)
@@ -141,32 +85,20 @@ impl Bench {
     pub fn source_arrow<L: Label>(
         &self,
         arrow: usize,
-        labels: &[L],
-        constants: &[L],
-        asked: &[L],
-        history: &[L],
+        tables: &Tables<L>,
     ) -> Result<((usize, usize), L), Refusal>
-        ensures { (desk self.now labels.now constants.now asked.now history.now, said (λ x. answer.SourceArrow x.0 x.1) result)
-            ≡ step L.alike (handed (short self.now labels.now constants.now asked.now history.now) 0 (ask.SourceArrow arrow))
-            (desk self.now labels.now constants.now asked.now history.now) }
+        ensures { Reads L.alike (ask.SourceArrow arrow) self.now (lists_of tables.now) (said (λ x. answer.SourceArrow x.0 x.1) result) }
     {
-        self.ready(labels, constants, asked, history)?;
-        shown_arrow(&self.source, arrow, labels).ok_or(Refusal::NoSuchArrow)
+        self.ready(tables)?;
+        self.shown_arrow(arrow, tables.labels)
+            .ok_or(Refusal::NoSuchArrow)
     }
 
     // How many rows, entries of the course and source arrows there are.
-    pub fn counts<L: Label>(
-        &self,
-        labels: &[L],
-        constants: &[L],
-        asked: &[L],
-        history: &[L],
-    ) -> Result<Counts, Refusal>
-        ensures { (desk self.now labels.now constants.now asked.now history.now, said (λ x. answer.Counts x) result)
-            ≡ step L.alike (handed (short self.now labels.now constants.now asked.now history.now) 0 ask.Counts)
-            (desk self.now labels.now constants.now asked.now history.now) }
+    pub fn counts<L: Label>(&self, tables: &Tables<L>) -> Result<Counts, Refusal>
+        ensures { Reads L.alike ask.Counts self.now (lists_of tables.now) (said (λ x. answer.Counts x) result) }
     {
-        self.ready(labels, constants, asked, history)?;
+        self.ready(tables)?;
         let sizes = self.workspace.sizes();
         Ok(Counts {
             rows: self.rows.count(),
@@ -174,7 +106,7 @@ impl Bench {
             arrows: sizes.arrows,
             frames: sizes.frames,
             comparisons: sizes.comparisons,
-            source_arrows: count_arrows(&self.source),
+            source_arrows: self.count_arrows(),
         })
     }
 }

@@ -1,6 +1,8 @@
 -- Trial refuses exactly where no rival labelling serves. Assumes nothing.
 use Rattle.std.proofs.Common.{◌≡◌, ℕ, suc, Bool, true, false, cond, not, ◌⊎◌, ◌↔◌, List, [], ◌∷◌, ◌++◌, length, Some, None, Ok, Err, Option, Result, sym, refl, ap, ◌∙◌, subst, inl, inr, append_assoc, append-nil}
 use Rattle.std.specs.List.{slice_get}
+use Rattle.std.specs.Option.{option_map}
+use Rattle.std.proofs.lemmas.Iterator.Adapters.{option_map_id}
 use Rattle.std.proofs.lemmas.Bool.{eqb-true, eq-eqb, and_parts, and_cases, not-true, not-false, both_ways}
 use Rattle.course.specs.declared.course.Origin.{Origin}
 use Rattle.course.specs.declared.course.Origin.TheVariants.{Blank, Source, Constant}
@@ -22,7 +24,7 @@ use Rattle.editing.specs.declared.request.Edit.{Edit}
 use Rattle.editing.specs.Drafts.{Labelling, label_in, compare_by, is_source, is_constant, same_arrow, same_outcome, turns, first, asked_or, put, changes, crowds, clash_of, turn_of, refuse_where, otherwise, clash_for, clashing, verdict}
 use Rattle.editing.specs.Model.{Opening, shows}
 use Rattle.editing.specs.Law.{Exact, meant, course_of, Rival, Serves, NoneServes, unservable}
-use Rattle.editing.proofs.Relabelling.{no_path, cond_none, cond_some, in_either, in_left, in_right, renewed, renewed_same, relabelled, relabel_length}
+use Rattle.editing.proofs.Relabelling.{cond_none, cond_some, in_either, in_left, in_right, relabelled, relabel_length}
 
 -- what is known of a draft under a labelling: each edited row has a label, and another one is asked
 pub record Draft {L V : Type 0} (meaning : L → V) (ls : Labelling L) (es : List (Edit L)) : Type 0 where
@@ -36,8 +38,8 @@ refused (Err e) = unservable e
 
 outcome_same : (x y : Outcome) → same_outcome x y ≡ true → y ≡ x
 outcome_same Same Same e = refl
-outcome_same Same Other e = absurd (both_ways false refl e)
-outcome_same Other Same e = absurd (both_ways false refl e)
+outcome_same Same Other e = cc
+outcome_same Other Same e = cc
 outcome_same Other Other e = refl
 
 outcome_self : (x : Outcome) → same_outcome x x ≡ true
@@ -45,9 +47,9 @@ outcome_self Same = refl
 outcome_self Other = refl
 
 pub source_is : (k : ℕ) (o : Origin) → is_source k o ≡ true → o ≡ Source k
-source_is k Blank e = absurd (both_ways false refl e)
+source_is k Blank e = cc
 source_is k (Source j) e = ap Source (sym (eqb-true k j e))
-source_is k (Constant c) e = absurd (both_ways false refl e)
+source_is k (Constant c) e = cc
 
 is_source_lem : (k : ℕ) (o : Origin) → o ≡ Source k → is_source k o ≡ true
 is_source_lem k o e = ap (is_source k) e ∙ eq-eqb k k refl
@@ -60,7 +62,7 @@ module _ {L : Type 0} where
   first_none p (y ∷ xs) e (inr i) h = first_none p xs e i (cond_none (p y) y (first p xs) h).1
 
   pub first_some : (p : Edit L → Bool) (es : List (Edit L)) (e : Edit L) → first p es ≡ Some e → In e es × (p e ≡ true)
-  first_some p [] e h = no_path e h
+  first_some p [] e h = cc
   first_some p (d ∷ es) e h = on (first_some p es e) (cond_some (p d) d e (first p es) h)
     where
       on : (first p es ≡ Some e → In e es × (p e ≡ true)) → ((p d ≡ true) × (d ≡ e)) ⊎ (first p es ≡ Some e) → In e (d ∷ es) × (p e ≡ true)
@@ -75,7 +77,7 @@ turns_none cmp i (c ∷ cs) h = on (turns_none cmp (suc i) cs) (same_outcome (cm
     on : (turns cmp (suc i) cs ≡ None → Every (Holds cmp) cs) → (b : Bool) → same_outcome (cmp c.left c.right) c.outcome ≡ b →
         cond b (turns cmp (suc i) cs) (Some (i, c)) ≡ None → Every (Holds cmp) (c ∷ cs)
     on ih true e k = (outcome_same (cmp c.left c.right) c.outcome e, ih k)
-    on ih false e k = no_path (i, c) (sym k)
+    on ih false e k = cc
 
 turns_back : (cmp : Compare) (i : ℕ) (cs : List Comparison) → Every (Holds cmp) cs → turns cmp i cs ≡ None
 turns_back cmp i [] h = refl
@@ -85,7 +87,7 @@ turns_back cmp i (c ∷ cs) h =
 
 module _ {L V : Type 0} (alike : L → L → Bool) (meaning : L → V) (exact : Exact alike meaning) where
   pub shows_meant : (a : Option L) (l : L) → meant meaning a ≡ Some (meaning l) → shows alike a l ≡ true
-  shows_meant None l e = no_path (meaning l) e
+  shows_meant None l e = cc
   shows_meant (Some x) l e = (exact x l).1 (cc)
 
   -- whether labels are alike goes by their meanings
@@ -100,14 +102,14 @@ module _ {L V : Type 0} (alike : L → L → Bool) (meaning : L → V) (exact : 
 
   compare_meant : (a a' b b' : Option L) → meant meaning a ≡ meant meaning a' → meant meaning b ≡ meant meaning b' → same_labels alike a b ≡ same_labels alike a' b'
   compare_meant None None None None p q = refl
-  compare_meant None None None (Some y') p q = no_path (meaning y') q
-  compare_meant None None (Some y) None p q = no_path (meaning y) (sym q)
+  compare_meant None None None (Some y') p q = cc
+  compare_meant None None (Some y) None p q = cc
   compare_meant None None (Some y) (Some y') p q = refl
-  compare_meant None (Some x') b b' p q = no_path (meaning x') p
-  compare_meant (Some x) None b b' p q = no_path (meaning x) (sym p)
+  compare_meant None (Some x') b b' p q = cc
+  compare_meant (Some x) None b b' p q = cc
   compare_meant (Some x) (Some x') None None p q = refl
-  compare_meant (Some x) (Some x') None (Some y') p q = no_path (meaning y') q
-  compare_meant (Some x) (Some x') (Some y) None p q = no_path (meaning y) (sym q)
+  compare_meant (Some x) (Some x') None (Some y') p q = cc
+  compare_meant (Some x) (Some x') (Some y) None p q = cc
   compare_meant (Some x) (Some x') (Some y) (Some y') p q = ap (λ (b : Bool). cond b Same Other) (alike_meant x x' y y' (cc) (cc))
 
   respects : (ls ls' : Labelling L) → ((o : Origin) → meant meaning (label_in ls o) ≡ meant meaning (label_in ls' o)) → (a b : Origin) → compare_by alike ls a b ≡ compare_by alike ls' a b
@@ -117,8 +119,8 @@ module _ {L V : Type 0} (alike : L → L → Bool) (meaning : L → V) (exact : 
   module _ (ls ls' : Labelling L) (es : List (Edit L)) (draft : Draft meaning ls es) (rival : Rival meaning es ls ls')
       (shows : (e : Edit L) → In e es → meant meaning (label_in ls' e.origin) ≡ Some (meaning e.asked)) where
     meets_arrow : (k : ℕ) (o : Option (Edit L)) → first (λ e. is_source k e.origin) es ≡ o →
-        meant meaning (slice_get ls'.arrows k) ≡ meant meaning (renewed (λ x. asked_or o x) (slice_get ls.arrows k))
-    meets_arrow k None h = on (rival.arrows k) ∙ sym (ap (meant meaning) (renewed_same (slice_get ls.arrows k)))
+        meant meaning (slice_get ls'.arrows k) ≡ meant meaning (option_map (λ x. asked_or o x) (slice_get ls.arrows k))
+    meets_arrow k None h = on (rival.arrows k) ∙ sym (ap (meant meaning) (option_map_id (slice_get ls.arrows k)))
       where
         on : (meant meaning (slice_get ls'.arrows k) ≡ meant meaning (slice_get ls.arrows k)) ⊎ ((e : Edit L) × In e es × (e.origin ≡ Source k)) →
             meant meaning (slice_get ls'.arrows k) ≡ meant meaning (slice_get ls.arrows k)
@@ -130,7 +132,7 @@ module _ {L V : Type 0} (alike : L → L → Bool) (meaning : L → V) (exact : 
         let q : e.origin ≡ Source k = source_is k e.origin f.1 in
         let n = draft.named e f.0 in
         let there : slice_get ls.arrows k ≡ Some n.0 = ap (label_in ls) (sym q) ∙ n.1 in
-        ap (λ (o : Origin). meant meaning (label_in ls' o)) (sym q) ∙ shows e f.0 ∙ sym (ap (λ (o : Option L). meant meaning (renewed (λ x. e.asked) o)) there)
+        ap (λ (o : Origin). meant meaning (label_in ls' o)) (sym q) ∙ shows e f.0 ∙ sym (ap (λ (o : Option L). meant meaning (option_map (λ x. e.asked) o)) there)
 
     meets : (o : Origin) → meant meaning (label_in ls' o) ≡ meant meaning (label_in (put es ls) o)
     meets Blank = refl
@@ -144,8 +146,8 @@ module _ {L V : Type 0} (alike : L → L → Bool) (meaning : L → V) (exact : 
   Agree e d = same_arrow e.origin d.origin ≡ true → meaning e.asked ≡ meaning d.asked
 
   arrow_sym : (a b : Origin) → same_arrow a b ≡ true → same_arrow b a ≡ true
-  arrow_sym Blank b h = absurd (both_ways false refl h)
-  arrow_sym (Constant c) b h = absurd (both_ways false refl h)
+  arrow_sym Blank b h = cc
+  arrow_sym (Constant c) b h = cc
   arrow_sym (Source k) Blank h = h
   arrow_sym (Source k) (Source j) h = eq-eqb j k (sym (eqb-true k j h))
   arrow_sym (Source k) (Constant c) h = h
@@ -171,7 +173,7 @@ module _ {L V : Type 0} (alike : L → L → Bool) (meaning : L → V) (exact : 
 
   clash_none : (e : Edit L) (o rest : Option (Edit L)) → clash_for alike e o rest ≡ None → (o ≡ None) × (rest ≡ None)
   clash_none e None rest h = (refl, h)
-  clash_none e (Some d) rest h = no_path e (sym h)
+  clash_none e (Some d) rest h = cc
 
   clash_some : (e f : Edit L) (o rest : Option (Edit L)) → clash_for alike e o rest ≡ Some f → ((d : Edit L) × (o ≡ Some d) × (e ≡ f)) ⊎ (rest ≡ Some f)
   clash_some e f None rest h = inr h
@@ -199,7 +201,7 @@ module _ {L V : Type 0} (alike : L → L → Bool) (meaning : L → V) (exact : 
 
   -- a clash: an edit, and a lower one that asks otherwise
   clashed : (es low : List (Edit L)) (f : Edit L) → clashing alike low es ≡ Some f → (d : Edit L) × In d (low ++ es) × In f (low ++ es) × (otherwise alike f d ≡ true)
-  clashed [] low f c = no_path f c
+  clashed [] low f c = cc
   clashed (e ∷ es) low f c = on (λ k. clashed es (low ++ (e ∷ [])) f k) (clash_some e f (first (otherwise alike e) low) (clashing alike (low ++ (e ∷ [])) es) c)
     where
       on : (clashing alike (low ++ (e ∷ [])) es ≡ Some f → (d : Edit L) × In d (low ++ (e ∷ []) ++ es) × In f (low ++ (e ∷ []) ++ es) × (otherwise alike f d ≡ true)) →
@@ -213,9 +215,9 @@ module _ {L V : Type 0} (alike : L → L → Bool) (meaning : L → V) (exact : 
           (x.0, subst (λ (l : List (Edit L)). In x.0 l) (append_assoc low (e ∷ []) es) x.1, subst (λ (l : List (Edit L)). In f l) (append_assoc low (e ∷ []) es) x.2, x.3)
 
   arrow_eq : (a b : Origin) → same_arrow a b ≡ true → a ≡ b
-  arrow_eq Blank b h = absurd (both_ways false refl h)
+  arrow_eq Blank b h = cc
   arrow_eq (Source k) b h = sym (source_is k b h)
-  arrow_eq (Constant c) b h = absurd (both_ways false refl h)
+  arrow_eq (Constant c) b h = cc
 
   -- no labelling serves where two edits ask one arrow otherwise
   no_clash : (ls' : Labelling L) (e d : Edit L) → otherwise alike e d ≡ true →
@@ -228,7 +230,7 @@ module _ {L V : Type 0} (alike : L → L → Bool) (meaning : L → V) (exact : 
 
   constant_shows : (ls ls' : Labelling L) (es : List (Edit L)) → Rival meaning es ls ls' → (o : Origin) → is_constant o ≡ true → meant meaning (label_in ls' o) ≡ meant meaning (label_in ls o)
   constant_shows ls ls' es r Blank h = refl
-  constant_shows ls ls' es r (Source k) h = absurd (both_ways false refl h)
+  constant_shows ls ls' es r (Source k) h = cc
   constant_shows ls ls' es r (Constant c) h = ap (λ (xs : List L). meant meaning (slice_get xs c)) r.constants
 
   refusal : (b : Bool) → (b ≡ false → ⊥) → b ≡ true
@@ -244,7 +246,7 @@ module _ {L V : Type 0} (alike : L → L → Bool) (meaning : L → V) (exact : 
         on (done v c) e k =
             let q : c ≡ o.course = cc in
             recorded cmp o.graph o.tree v o.course (e ∙ ap (λ (z : Course). done v z) q)
-        on (full x) e k = no_path o.course k
+        on (full x) e k = cc
 
     at_constant : (e : Edit L) → first (λ d. is_constant d.origin) es ≡ Some e → NoneServes alike meaning o ls es
     at_constant e h ls' rival serves =
@@ -262,7 +264,7 @@ module _ {L V : Type 0} (alike : L → L → Bool) (meaning : L → V) (exact : 
         let all : Every (Holds (compare_by alike (put es ls))) o.course.comparisons =
         every_to (Holds (compare_by alike ls')) (Holds (compare_by alike (put es ls))) (λ y q. q ∙ same-cmp y.left y.right) o.course.comparisons
         (held (compare_by alike ls') serves.course) in
-        no_path t (sym (turns_back (compare_by alike (put es ls)) 0 o.course.comparisons all) ∙ h)
+        cc (sym (turns_back (compare_by alike (put es ls)) 0 o.course.comparisons all) ∙ h)
 
     -- the labels asked serve
     put_rival : Rival meaning es ls (put es ls)
@@ -279,7 +281,7 @@ module _ {L V : Type 0} (alike : L → L → Bool) (meaning : L → V) (exact : 
             inl
             (ap (meant meaning)
             (relabelled (λ n x. asked_or (first (λ e. is_source n e.origin) es) x) k ls.arrows
-            ∙ ap (λ (w : Option (Edit L)). renewed (λ x. asked_or w x) (slice_get ls.arrows k)) h ∙ renewed_same (slice_get ls.arrows k)))
+            ∙ ap (λ (w : Option (Edit L)). option_map (λ x. asked_or w x) (slice_get ls.arrows k)) h ∙ option_map_id (slice_get ls.arrows k)))
         on k (Some e) h = let f = first_some (λ d. is_source k d.origin) es e h in inr (e, f.0, source_is k e.origin f.1)
 
     pub put_shows : first (λ d. is_constant d.origin) es ≡ None → clashing alike [] es ≡ None →
@@ -296,14 +298,14 @@ module _ {L V : Type 0} (alike : L → L → Bool) (meaning : L → V) (exact : 
             sym (a (ap (λ (z : Origin). same_arrow z d.origin) q ∙ f.1))
 
         on : (w : Origin) → e.origin ≡ w → meant meaning (label_in (put es ls) e.origin) ≡ Some (meaning e.asked)
-        on Blank q = no_path (draft.named e i).0 (ap (label_in ls) (sym q) ∙ (draft.named e i).1)
+        on Blank q = cc (ap (label_in ls) (sym q) ∙ (draft.named e i).1)
         on (Constant j) q = absurd (both_ways (is_constant e.origin) (first_none (λ d. is_constant d.origin) es e i h) (ap is_constant q))
         on (Source j) q =
             let n = draft.named e i in
             let there : slice_get ls.arrows j ≡ Some n.0 = ap (label_in ls) (sym q) ∙ n.1 in
             ap (λ (z : Origin). meant meaning (label_in (put es ls) z)) q
             ∙ ap (meant meaning) (relabelled (λ m' x'. asked_or (first (λ d. is_source m' d.origin) es) x') j ls.arrows)
-            ∙ ap (λ (z : Option L). meant meaning (renewed (λ x'. asked_or (first (λ d. is_source j d.origin) es) x') z)) there
+            ∙ ap (λ (z : Option L). meant meaning (option_map (λ x'. asked_or (first (λ d. is_source j d.origin) es) x') z)) there
             ∙ ap (λ (v : V). Some v) (at_arrow j q n.0 (first (λ d. is_source j d.origin) es) refl)
 
     put_serves : first (λ d. is_constant d.origin) es ≡ None → clashing alike [] es ≡ None →

@@ -1,6 +1,8 @@
 -- A commit of nothing, a taken commit, and undo with redo: what they leave. Assumes nothing.
-use Rattle.std.proofs.Common.{◌≡◌, ℕ, Bool, cond, eqb, List, [], ◌∷◌, Some, None, Ok, Err, Option, Result, sym, refl, ap, ◌∙◌, subst, arith}
+use Rattle.std.proofs.Common.{◌≡◌, ℕ, Bool, cond, eqb, List, [], ◌∷◌, Some, None, Ok, Err, Option, Result, sym, refl, ap, ◌∙◌, subst}
 use Rattle.std.specs.List.{slice_get}
+use Rattle.std.specs.Option.{option_map}
+use Rattle.std.proofs.lemmas.Iterator.Adapters.{option_map_id}
 use Rattle.course.specs.declared.course.Origin.{Origin}
 use Rattle.course.specs.declared.course.Origin.TheVariants.{Blank, Source, Constant}
 use Rattle.walks.specs.Reach.{In}
@@ -17,7 +19,7 @@ use Rattle.editing.specs.Law.{Exact, meant, Opens, opened, asks}
 use Rattle.editing.specs.Editor.{row_read, Shown, Again, EmptyCommit, TakenCommit, UndoRedo, RedoUndo}
 use Rattle.editing.proofs.Editing.{first_some, source_is, put_shows}
 use Rattle.editing.proofs.Histories.{Holding, Drafted, Rowed, Takes, takes_back, start_holds, next_holds, row_label, committed, passed}
-use Rattle.editing.proofs.Relabelling.{renewed, renewed_same, relabelled}
+use Rattle.editing.proofs.Relabelling.{relabelled}
 use Rattle.editing.proofs.Simulation.{machine_of, fitted, step_is, run_is, start_is, row_says}
 
 module _ {L : Type 0} where
@@ -27,14 +29,14 @@ module _ {L : Type 0} where
   put_others es ls (Constant c) f = refl
   put_others es ls (Source k) f = relabelled (λ n x. asked_or (first (λ e. is_source n e.origin) es) x) k ls.arrows ∙ on (first (λ e. is_source k e.origin) es) refl
     where
-      on : (d : Option (Edit L)) → first (λ e. is_source k e.origin) es ≡ d → renewed (λ x. asked_or (first (λ e. is_source k e.origin) es) x) (slice_get ls.arrows k) ≡ slice_get ls.arrows k
-      on None h = ap (λ (z : Option (Edit L)). renewed (λ x. asked_or z x) (slice_get ls.arrows k)) h ∙ renewed_same (slice_get ls.arrows k)
+      on : (d : Option (Edit L)) → first (λ e. is_source k e.origin) es ≡ d → option_map (λ x. asked_or (first (λ e. is_source k e.origin) es) x) (slice_get ls.arrows k) ≡ slice_get ls.arrows k
+      on None h = ap (λ (z : Option (Edit L)). option_map (λ x. asked_or z x) (slice_get ls.arrows k)) h ∙ option_map_id (slice_get ls.arrows k)
       on (Some e) h = let q = first_some (λ d. is_source k d.origin) es e h in absurd (f e q.0 (source_is k e.origin q.1))
 
   -- a commit that names arrows is taken
   settled_ok : (es : List (Edit L)) (v : Result ℕ Refusal) (n : ℕ) → (settled es v).1 ≡ answer.Named n → v ≡ Ok n
   settled_ok es (Ok m) n h = let e : m ≡ n = cc in ap (λ (z : ℕ). Ok z) e
-  settled_ok es (Err e) n h = absurd (let z : ◌≡◌ {A = ℕ} 0 1 = cc in omega arith)
+  settled_ok es (Err e) n h = cc
 
   module _ (alike : L → L → Bool) (o : Opening L) where
     -- undo, then redo, in the model
@@ -46,9 +48,9 @@ module _ {L : Type 0} where
             let s : State L = record { draft = d; standing = ts; undone = us } in
             reply alike o (asks 0 ask.Undo) s ≡ answer.Named n →
             (next alike o (asks 0 ask.Redo) (next alike o (asks 0 ask.Undo) s) ≡ s) × (reply alike o (asks 0 ask.Redo) (next alike o (asks 0 ask.Undo) s) ≡ answer.Named n)
-        on None [] us q = absurd (let z : ◌≡◌ {A = ℕ} 0 1 = cc in omega arith)
+        on None [] us q = cc
         on None (t ∷ ts) us q = (refl, q)
-        on (Some es) ts us q = absurd (let z : ◌≡◌ {A = ℕ} 0 1 = cc in omega arith)
+        on (Some es) ts us q = cc
 
     redone_again : (st : State L) (n : ℕ) → reply alike o (asks 0 ask.Redo) st ≡ answer.Named n →
         (next alike o (asks 0 ask.Undo) (next alike o (asks 0 ask.Redo) st) ≡ st) × (reply alike o (asks 0 ask.Undo) (next alike o (asks 0 ask.Redo) st) ≡ answer.Named n)
@@ -58,9 +60,9 @@ module _ {L : Type 0} where
             let s : State L = record { draft = d; standing = ts; undone = us } in
             reply alike o (asks 0 ask.Redo) s ≡ answer.Named n →
             (next alike o (asks 0 ask.Undo) (next alike o (asks 0 ask.Redo) s) ≡ s) × (reply alike o (asks 0 ask.Undo) (next alike o (asks 0 ask.Redo) s) ≡ answer.Named n)
-        on None ts [] q = absurd (let z : ◌≡◌ {A = ℕ} 0 1 = cc in omega arith)
+        on None ts [] q = cc
         on None ts (u ∷ us) q = (refl, q)
-        on (Some es) ts us q = absurd (let z : ◌≡◌ {A = ℕ} 0 1 = cc in omega arith)
+        on (Some es) ts us q = cc
 
 module _ {L V : Type 0} (alike : L → L → Bool) (meaning : L → V) (exact : Exact alike meaning) where
   pub empty_commit : EmptyCommit alike meaning

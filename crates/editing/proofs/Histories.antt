@@ -1,7 +1,8 @@
 -- After any calls the present labels give the opening's course, and the edits of a draft have labels that they do not ask.
 -- Assumes nothing.
-use Rattle.std.proofs.Common.{◌≡◌, ℕ, Bool, true, false, cond, not, ◌&&◌, eqb, ltb, leb, ◌⊎◌, List, [], ◌∷◌, ◌++◌, length, Some, None, Ok, Err, Option, Result, sym, refl, ap, ◌∙◌, subst, ap₂, inl, inr, arith}
+use Rattle.std.proofs.Common.{◌≡◌, ℕ, Bool, true, false, cond, not, ◌&&◌, eqb, ltb, leb, ◌⊎◌, List, [], ◌∷◌, ◌++◌, length, Some, None, Ok, Err, Option, Result, sym, refl, ap, ◌∙◌, subst, ap₂, inl, inr}
 use Rattle.std.specs.List.{slice_get}
+use Rattle.std.specs.Option.{option_map}
 use Rattle.std.proofs.lemmas.Bool.{eqb-true, eq-eqb, both_ways, cond_both, cond-true, cond-false}
 use Rattle.course.specs.declared.course.Origin.{Origin}
 use Rattle.course.specs.declared.course.Origin.TheVariants.{Blank, Source, Constant}
@@ -26,7 +27,7 @@ use Rattle.editing.specs.Model.{Opening, rows_shown, Call, State, Effect, stays,
 use Rattle.editing.specs.Law.{Exact, meant, Opens}
 use Rattle.editing.proofs.Editing.{Draft, shows_meant, turns_none, source_is}
 use Rattle.editing.proofs.RowLabels.{row_labelled}
-use Rattle.editing.proofs.Relabelling.{no_path, renewed, relabelled, relabel_length, relabel_same}
+use Rattle.editing.proofs.Relabelling.{relabelled, relabel_length, relabel_same}
 
 -- the lowest edit that passes, of a list with one more at the end
 module _ {L : Type 0} where
@@ -35,11 +36,11 @@ module _ {L : Type 0} where
   first_push p (x ∷ xs) e h = on (λ k. first_push p xs e k) (p x) refl h
     where
       on : (first p xs ≡ None → first p (xs ++ (e ∷ [])) ≡ cond (p e) (Some e) None) → (b : Bool) → p x ≡ b → cond b (Some x) (first p xs) ≡ None → cond (p x) (Some x) (first p (xs ++ (e ∷ []))) ≡ cond (p e) (Some e) None
-      on ih true q k = no_path x (sym k)
+      on ih true q k = cc
       on ih false q k = cond-false (p x) _ _ q ∙ ih k
 
   first_kept : (p : Edit L → Bool) (xs : List (Edit L)) (e y : Edit L) → first p xs ≡ Some y → first p (xs ++ (e ∷ [])) ≡ Some y
-  first_kept p [] e y h = no_path y h
+  first_kept p [] e y h = cc
   first_kept p (x ∷ xs) e y h = on (λ k. first_kept p xs e y k) (p x) refl h
     where
       on : (first p xs ≡ Some y → first p (xs ++ (e ∷ [])) ≡ Some y) → (b : Bool) → p x ≡ b → cond b (Some x) (first p xs) ≡ Some y → cond (p x) (Some x) (first p (xs ++ (e ∷ []))) ≡ Some y
@@ -56,7 +57,7 @@ module _ {L : Type 0} where
       step j None l xs q ih = other (eqb k j) refl
         where
           other : (b : Bool) → eqb k j ≡ b → given k xs (cond (eqb k j) l d) ≡ d
-          other true r = no_path y (sym q ∙ ap (λ (z : ℕ). first (λ x. is_source z x.origin) low) (sym (eqb-true k j r)) ∙ h)
+          other true r = cc (sym q ∙ ap (λ (z : ℕ). first (λ x. is_source z x.origin) low) (sym (eqb-true k j r)) ∙ h)
           other false r = ap (λ (b : Bool). given k xs (cond b l d)) r ∙ ih
 
       on : (o : Origin) → e.origin ≡ o → given k (changes_over (low ++ (e ∷ [])) es) d ≡ d → given k (change_for e.origin e.asked (first (λ x. same_arrow e.origin x.origin) low) (changes_over (low ++ (e ∷ [])) es)) d ≡ d
@@ -107,9 +108,9 @@ module _ {L : Type 0} where
   committed ls ts es (Source k) =
       relabelled (λ n x. latest n (changes es ∷ ts) x) k ls.arrows ∙ both (slice_get ls.arrows k)
       ∙ sym (relabelled (λ n x. asked_or (first (λ e. is_source n e.origin) es) x) k (relabel (λ n x. latest n ts x) 0 ls.arrows)
-      ∙ ap (renewed (λ x. asked_or (first (λ e. is_source k e.origin) es) x)) (relabelled (λ n x. latest n ts x) k ls.arrows))
+      ∙ ap (option_map (λ x. asked_or (first (λ e. is_source k e.origin) es) x)) (relabelled (λ n x. latest n ts x) k ls.arrows))
     where
-      both : (o : Option L) → renewed (λ x. given k (changes es) (latest k ts x)) o ≡ renewed (λ x. asked_or (first (λ e. is_source k e.origin) es) x) (renewed (λ x. latest k ts x) o)
+      both : (o : Option L) → option_map (λ x. given k (changes es) (latest k ts x)) o ≡ option_map (λ x. asked_or (first (λ e. is_source k e.origin) es) x) (option_map (λ x. latest k ts x) o)
       both None = refl
       both (Some x) = ap (λ (l : L). Some l) (given_changes k es (latest k ts x))
   committed ls ts es (Constant c) = refl
@@ -141,10 +142,10 @@ module _ {L : Type 0} where
 -- a verdict that takes the edits has passed every check
 where_ok : {X : Type 0} (w : Option X) (e : X → Refusal) (v : Result ℕ Refusal) (n : ℕ) → refuse_where w e v ≡ Ok n → (w ≡ None) × (v ≡ Ok n)
 where_ok None e v n h = (refl, h)
-where_ok (Some x) e v n h = absurd (let z : ◌≡◌ {A = ℕ} 0 1 = cc in omega arith)
+where_ok (Some x) e v n h = cc
 
 unless_ok : (b : Bool) (e : Refusal) (v : Result ℕ Refusal) (n : ℕ) → cond b (Err e) v ≡ Ok n → (b ≡ false) × (v ≡ Ok n)
-unless_ok true e v n h = absurd (let z : ◌≡◌ {A = ℕ} 0 1 = cc in omega arith)
+unless_ok true e v n h = cc
 unless_ok false e v n h = (refl, h)
 
 pub record Passed {L : Type 0} (alike : L → L → Bool) (cs : List Comparison) (ls : Labelling L) (es : List (Edit L)) (n : ℕ) : Type 0 where

@@ -1,7 +1,7 @@
 -- Every row of a finished run has a label. Assumes nothing.
-use Rattle.std.proofs.Common.{◌≡◌, ℕ, Bool, true, false, List, length, Some, filter, refl, ap, ◌∙◌, arith}
+use Rattle.std.proofs.Common.{◌≡◌, ℕ, Bool, true, false, List, length, Some, filter, ap, ◌∙◌, arith}
 use Rattle.std.specs.List.{slice_get}
-use Rattle.std.proofs.lemmas.Bool.{and_parts, not-true, both_ways}
+use Rattle.std.proofs.lemmas.Bool.{and_parts, not-true}
 use Rattle.course.specs.declared.course.Arrow.{Arrow}
 use Rattle.course.specs.declared.course.Origin.{Origin}
 use Rattle.course.specs.declared.course.Origin.TheVariants.{Blank, Source, Constant}
@@ -20,7 +20,7 @@ use Rattle.editing.proofs.Relabelling.{nth_in, nth_there, every_kept}
 
 module _ (s n : ℕ) where
   labelled : (o : Origin) → Known s n o → is_blank_origin o ≡ false → Labelled s n o
-  labelled Blank k h = absurd (both_ways true h refl)
+  labelled Blank k h = cc
   labelled (Source i) k h = k
   labelled (Constant i) k h = k
 

@@ -1,8 +1,10 @@
 -- The machine follows the model, so the law holds of its runs. Assumes nothing.
 use Rattle.std.proofs.Common.{◌≡◌, ℕ, zero, suc, ◌+◌, Bool, true, false, cond, eqb, ◌↔◌, List, [], ◌∷◌, ◌++◌, map, length, get_or, take, drop, set, Some, None, Ok, Err, Option, Result, sym, refl, ap, ◌∙◌, subst, append_assoc, append-nil, arith}
 use Rattle.std.specs.List.{slice_get}
-use Rattle.std.proofs.lemmas.Bool.{eqb-true, eq-eqb, both_ways}
-use Rattle.std.proofs.lemmas.List.{length-append, length-map, length-set, take_at}
+use Rattle.std.specs.Option.{option_map}
+use Rattle.std.proofs.lemmas.Iterator.Adapters.{option_map_id}
+use Rattle.std.proofs.lemmas.Bool.{eqb-true, eq-eqb}
+use Rattle.std.proofs.lemmas.List.{length-append, length-map, length-set, take_at, drop_at, get_or_at}
 use Rattle.course.specs.Course.{Run}
 use Rattle.rows.specs.declared.row.Row.{Row}
 use Rattle.editing.specs.declared.refusal.Refusal.{Refusal}
@@ -17,26 +19,26 @@ use Rattle.editing.specs.Machine.{Kept, Desk, written, arrow_of, old_of, new_of,
 use Rattle.editing.specs.Law.{Exact, Opens, opened, asks, rows_in, NoneServes, turned_down, Upheld, RunLaw}
 use Rattle.editing.proofs.Editing.{refused, edit_law}
 use Rattle.editing.proofs.Histories.{Holding, Allowed, Drafted, NonEmpty, Takes, takes_back, start_holds, next_holds, next_allowed, row_label}
-use Rattle.editing.proofs.Relabelling.{drop_at, same_entries, renewed, renewed_same, relabelled, relabel_length, relabel_same, set_at}
+use Rattle.editing.proofs.Relabelling.{same_entries, relabelled, relabel_length, relabel_same, set_at}
 
 module _ {L : Type 0} where
-  twice : (f g : L → L) (o : Option L) → renewed f (renewed g o) ≡ renewed (λ x. f (g x)) o
+  twice : (f g : L → L) (o : Option L) → option_map f (option_map g o) ≡ option_map (λ x. f (g x)) o
   twice f g None = refl
   twice f g (Some x) = refl
 
   -- the new labels written are the commit's
   written_new : (base : List L) (t : List (Change L)) (xs : List L) (k : ℕ)
-      → slice_get (written (map arrow_of (keep base t)) (map new_of (keep base t)) xs) k ≡ renewed (given k t) (slice_get xs k)
-  written_new base [] xs k = sym (renewed_same (slice_get xs k))
+      → slice_get (written (map arrow_of (keep base t)) (map new_of (keep base t)) xs) k ≡ option_map (given k t) (slice_get xs k)
+  written_new base [] xs k = sym (option_map_id (slice_get xs k))
   written_new base (x ∷ t) xs k =
-      written_new base t (set xs x.arrow x.label) k ∙ ap (renewed (given k t)) (set_at xs x.arrow k x.label)
+      written_new base t (set xs x.arrow x.label) k ∙ ap (option_map (given k t)) (set_at xs x.arrow k x.label)
       ∙ twice (given k t) (λ y. cond (eqb k x.arrow) x.label y) (slice_get xs k)
 
   put_in_lem : (ls : Labelling L) (base : List L) (ts : List (List (Change L))) (t : List (Change L)) → put_in (keep base t) (under ls ts) ≡ under ls (t ∷ ts)
   put_in_lem ls base ts t =
       ap (λ (z : List L). record { arrows = z; constants = ls.constants })
       (same_entries (written (map arrow_of (keep base t)) (map new_of (keep base t)) (under ls ts).arrows) (under ls (t ∷ ts)).arrows
-      (λ k. written_new base t (under ls ts).arrows k ∙ ap (renewed (given k t)) (relabelled (λ n x. latest n ts x) k ls.arrows) ∙ twice (given k t) (latest k ts) (slice_get ls.arrows k)
+      (λ k. written_new base t (under ls ts).arrows k ∙ ap (option_map (given k t)) (relabelled (λ n x. latest n ts x) k ls.arrows) ∙ twice (given k t) (latest k ts) (slice_get ls.arrows k)
       ∙ sym (relabelled (λ n x. latest n (t ∷ ts) x) k ls.arrows)))
 
   -- the old labels put back are those before
@@ -50,7 +52,7 @@ module _ {L : Type 0} where
   given_none k (x ∷ t) d h = on (eqb k x.arrow) refl h (λ q. given_none k t d q)
     where
       on : (b : Bool) → eqb k x.arrow ≡ b → cond b true (named k t) ≡ false → (named k t ≡ false → given k t d ≡ d) → given k t (cond (eqb k x.arrow) x.label d) ≡ d
-      on true e q ih = absurd (both_ways true q refl)
+      on true e q ih = cc
       on false e q ih = ap (λ (b : Bool). given k t (cond b x.label d)) e ∙ ih q
 
   Alike : Option L → Option L → Type 0
@@ -67,7 +69,7 @@ module _ {L : Type 0} where
   same_shape (x ∷ xs) (y ∷ ys) zero h = tt
   same_shape (x ∷ xs) (y ∷ ys) (suc k) h = same_shape xs ys k (omega arith)
 
-  put_old : (o m : Option L) (l : L) → Alike o m → renewed (λ y. label_or m l) o ≡ m
+  put_old : (o m : Option L) (l : L) → Alike o m → option_map (λ y. label_or m l) o ≡ m
   unfolding Alike
   put_old None None l h = refl
   put_old None (Some y) l h = absurd h
@@ -82,15 +84,15 @@ module _ {L : Type 0} where
       let v = label_or (slice_get base x.arrow) x.label in
       written_old base t (set xs x.arrow v) (length-set xs x.arrow v ∙ len) (λ j q. set_at xs x.arrow j v ∙ on j (eqb j x.arrow) refl q) k
     where
-      on : (j : ℕ) (b : Bool) → eqb j x.arrow ≡ b → named j t ≡ false → renewed (λ y. cond (eqb j x.arrow) (label_or (slice_get base x.arrow) x.label) y) (slice_get xs j) ≡ slice_get base j
+      on : (j : ℕ) (b : Bool) → eqb j x.arrow ≡ b → named j t ≡ false → option_map (λ y. cond (eqb j x.arrow) (label_or (slice_get base x.arrow) x.label) y) (slice_get xs j) ≡ slice_get base j
       on j true e q =
           let w : j ≡ x.arrow = eqb-true j x.arrow e in
-          ap (λ (b : Bool). renewed (λ y. cond b (label_or (slice_get base x.arrow) x.label) y) (slice_get xs j)) e
-          ∙ ap (λ (z : ℕ). renewed (λ y. label_or (slice_get base z) x.label) (slice_get xs j)) (sym w)
+          ap (λ (b : Bool). option_map (λ y. cond b (label_or (slice_get base x.arrow) x.label) y) (slice_get xs j)) e
+          ∙ ap (λ (z : ℕ). option_map (λ y. label_or (slice_get base z) x.label) (slice_get xs j)) (sym w)
           ∙ put_old (slice_get xs j) (slice_get base j) x.label (same_shape xs base j len)
       on j false e q =
-          ap (λ (b : Bool). renewed (λ y. cond b (label_or (slice_get base x.arrow) x.label) y) (slice_get xs j)) e
-          ∙ renewed_same (slice_get xs j) ∙ h j (ap (λ (b : Bool). cond b true (named j t)) e ∙ q)
+          ap (λ (b : Bool). option_map (λ y. cond b (label_or (slice_get base x.arrow) x.label) y) (slice_get xs j)) e
+          ∙ option_map_id (slice_get xs j) ∙ h j (ap (λ (b : Bool). cond b true (named j t)) e ∙ q)
 
   put_back_lem : (ls : Labelling L) (ts : List (List (Change L))) (t : List (Change L)) → put_back (keep (under ls ts).arrows t) (under ls (t ∷ ts)) ≡ under ls ts
   put_back_lem ls ts t =
@@ -100,7 +102,7 @@ module _ {L : Type 0} where
       (relabel_length (λ n x. latest n (t ∷ ts) x) 0 ls.arrows ∙ sym (relabel_length (λ n x. latest n ts x) 0 ls.arrows))
       (λ k q. relabelled (λ n x. latest n (t ∷ ts) x) k ls.arrows ∙ unnamed k q (slice_get ls.arrows k) ∙ sym (relabelled (λ n x. latest n ts x) k ls.arrows))))
     where
-      unnamed : (k : ℕ) → named k t ≡ false → (o : Option L) → renewed (λ x. given k t (latest k ts x)) o ≡ renewed (λ x. latest k ts x) o
+      unnamed : (k : ℕ) → named k t ≡ false → (o : Option L) → option_map (λ x. given k t (latest k ts x)) o ≡ option_map (λ x. latest k ts x) o
       unnamed k q None = refl
       unnamed k q (Some x) = ap (λ (z : L). Some z) (given_none k t (latest k ts x) q)
 
@@ -133,12 +135,6 @@ module _ {L : Type 0} where
       }
 
   -- reading such a history
-  get_or_at' : (ks rest : List (List (Kept L))) (k : List (Kept L)) (n : ℕ) → length ks ≡ n → get_or (ks ++ (k ∷ rest)) n [] ≡ k
-  get_or_at' [] rest k zero h = refl
-  get_or_at' [] rest k (suc n) h = absurd (omega arith)
-  get_or_at' (x ∷ ks) rest k zero h = absurd (omega arith)
-  get_or_at' (x ∷ ks) rest k (suc n) h = get_or_at' ks rest k n (omega arith)
-
   size_at' : (ks rest : List (List (Kept L))) (k : List (Kept L)) (n : ℕ) → length ks ≡ n → size_at (ks ++ (k ∷ rest)) n ≡ Some (length k)
   size_at' [] rest k zero h = refl
   size_at' [] rest k (suc n) h = absurd (omega arith)
@@ -234,7 +230,7 @@ module _ {L : Type 0} where
       let ls = o.labels in
       let H = (before ls ts ++ (keep (under ls ts).arrows t ∷ [])) ++ beyond ls (t ∷ ts) us in
       let e : H ≡ before ls ts ++ (keep (under ls ts).arrows t ∷ beyond ls (t ∷ ts) us) = append_assoc (before ls ts) (keep (under ls ts).arrows t ∷ []) (beyond ls (t ∷ ts) us) in
-      let g : get_or H (length ts) [] ≡ keep (under ls ts).arrows t = ap (λ z. get_or z (length ts) []) e ∙ get_or_at' (before ls ts) (beyond ls (t ∷ ts) us) (keep (under ls ts).arrows t) (length ts) (before_length ls ts) in
+      let g : get_or H (length ts) [] ≡ keep (under ls ts).arrows t = ap (λ z. get_or z (length ts) []) e ∙ get_or_at (before ls ts) (keep (under ls ts).arrows t) (beyond ls (t ∷ ts) us) [] (length ts) (before_length ls ts) in
       desk_same o (put_back (get_or H (length ts) []) (under ls (t ∷ ts))) (under ls ts) d H _ (length ts)
       (ap (λ (z : List (Kept L)). put_back z (under ls (t ∷ ts))) g ∙ put_back_lem ls ts t) e
 
@@ -244,7 +240,7 @@ module _ {L : Type 0} where
   redo_is o d ts us u =
       let ls = o.labels in
       let H = before ls ts ++ (keep (under ls ts).arrows u ∷ beyond ls (u ∷ ts) us) in
-      let g : get_or H (length ts) [] ≡ keep (under ls ts).arrows u = get_or_at' (before ls ts) (beyond ls (u ∷ ts) us) (keep (under ls ts).arrows u) (length ts) (before_length ls ts) in
+      let g : get_or H (length ts) [] ≡ keep (under ls ts).arrows u = get_or_at (before ls ts) (keep (under ls ts).arrows u) (beyond ls (u ∷ ts) us) [] (length ts) (before_length ls ts) in
       desk_same o (put_in (get_or H (length ts) []) (under ls ts)) (under ls (u ∷ ts)) d H _ (suc (length ts))
       (ap (λ (z : List (Kept L)). put_in z (under ls ts)) g ∙ put_in_lem ls (under ls ts).arrows ts u) (sym (append_assoc (before ls ts) (keep (under ls ts).arrows u ∷ []) (beyond ls (u ∷ ts) us)))
 

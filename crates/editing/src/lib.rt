@@ -4,4 +4,4 @@
 
 pub mod refusal;
 pub mod request;
-mod run_laws;
+pub mod run_laws;

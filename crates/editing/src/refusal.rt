@@ -6,7 +6,7 @@ use course::course::Full;
 
 // Two edited rows of one source arrow that are asked different labels: the lowest edited row whose
 // arrow a lower edited row asks otherwise, and the lowest edited row of that arrow.
-#[derive(Clone, Copy)]
+#[derive(Clone, Copy, Debug, PartialEq, Eq)]
 pub struct Clash {
     pub row: usize,
     pub lowest: usize,
@@ -14,7 +14,7 @@ pub struct Clash {
 
 // The first comparison of the course that the labels asked would turn: its number, its place and
 // frame, and the lowest edited row on a side of it.
-#[derive(Clone, Copy)]
+#[derive(Clone, Copy, Debug, PartialEq, Eq)]
 pub struct Turn {
     pub comparison: usize,
     pub place: usize,

@@ -4,6 +4,7 @@ use course::course::{Arrow, Comparison, Frame, Node, Origin};
 use rows::row::Row;
 
 // What is asked of a bench. Mark, trial, commit and abandon are asked with a slip.
+#[derive(Clone, Copy)]
 pub enum Request<L> {
     // to open a draft
     Begin,
@@ -47,7 +48,7 @@ pub struct Edit<L> {
 }
 
 // How many rows, how many entries of each list of the course, and how many source arrows there are.
-#[derive(Clone, Copy)]
+#[derive(Clone, Copy, Debug, PartialEq, Eq)]
 pub struct Counts {
     pub rows: usize,
     pub nodes: usize,
@@ -58,7 +59,7 @@ pub struct Counts {
 }
 
 // How many commits stand, and how many are undone.
-#[derive(Clone, Copy)]
+#[derive(Clone, Copy, Debug, PartialEq, Eq)]
 pub struct Commits {
     pub standing: usize,
     pub undone: usize,

@@ -1,5 +1,0 @@
-use Rattle.bench.proofs.Simulation.{run_law_lem}
-use Rattle.bench.proofs.run_laws.run_law.Goals as goal
-
-pub returns : goal.returns
-returns g c = run_law_lem g.L.Label.alike g.L.Label.meaning g.met.L.Label.exact

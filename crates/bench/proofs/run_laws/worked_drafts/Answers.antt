@@ -1,5 +1,0 @@
-use Rattle.bench.proofs.Cases.{worked_drafts_lem}
-use Rattle.bench.proofs.run_laws.worked_drafts.Goals as goal
-
-pub returns : goal.returns
-returns c = worked_drafts_lem
