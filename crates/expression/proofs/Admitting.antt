@@ -1,11 +1,11 @@
 -- What admission answers, by the check that fails first. Assumes nothing.
-use Rattle.std.proofs.Common.{◌≡◌, ℕ, ◌≤◌, true, false, List, length, Some, None, Ok, Err, Option, Result, sym, ap, ◌∙◌}
+use Rattle.std.proofs.Common.{◌≡◌, ℕ, ◌≤◌, true, false, List, length, Some, None, Ok, Err, Option, Result, sym, refl, ap₂, ◌∙◌}
 use Rattle.std.proofs.lemmas.Bool.{and_parts, leb-true, cond-true, cond-false}
 use Rattle.expression.specs.declared.form.Form.{Form}
 use Rattle.expression.specs.declared.raw.RawPlace.{RawPlace}
 use Rattle.expression.specs.declared.refusal.Refusal.{Refusal}
 use Rattle.expression.specs.declared.refusal.Refusal.TheVariants.{Size, IllFormed, NotPartOnce, OutOfRange, SetsUnfit}
-use Rattle.expression.specs.Admission.{sized, padded, well_formed, part_once, range_kept, sets_agree, lowest, refused_at, checked, admission}
+use Rattle.expression.specs.Admission.{sized, padded, formed, part_once, range_kept, sets_agree, lowest, told, refused_at, checked, admission}
 
 pub sized_tells : (n c : ℕ) → sized n c ≡ true → (1 ≤ n) × (n ≤ 64) × (c ≤ 32)
 sized_tells n c h =
@@ -13,11 +13,13 @@ sized_tells n c h =
     let q = and_parts _ _ p.0 in
     (leb-true 1 n q.0, leb-true n 64 q.1, leb-true c 32 p.1)
 
-refuses : (o : Option ℕ) (p : ℕ) (why : ℕ → Refusal) (next : Result (Unit {0}) Refusal) → Some p ≡ o → refused_at o why next ≡ Err (why p)
-refuses o p why next h = ap (λ (x : Option ℕ). refused_at x why next) (sym h)
+refuses : (o : Option ℕ) (refusal : Refusal) (why : ℕ → Refusal) (next : Result (Unit {0}) Refusal) → told why o ≡ Err refusal → refused_at o why next ≡ Err refusal
+refuses None refusal why next h = cc
+refuses (Some p) refusal why next h = h
 
-passes : (o : Option ℕ) (why : ℕ → Refusal) (next : Result (Unit {0}) Refusal) → None ≡ o → refused_at o why next ≡ next
-passes o why next h = ap (λ (x : Option ℕ). refused_at x why next) (sym h)
+passes : (o : Option ℕ) (why : ℕ → Refusal) (next : Result (Unit {0}) Refusal) → told why o ≡ Ok tt → refused_at o why next ≡ next
+passes None why next h = refl
+passes (Some p) why next h = cc
 
 module _ (raw : List RawPlace) (c : ℕ) where
   pub told_size : sized (length raw) c ≡ false → admission raw c ≡ Err Size
@@ -28,24 +30,24 @@ module _ (raw : List RawPlace) (c : ℕ) where
   unfolding admission
   opened h = cond-true (sized (length raw) c) (checked raw (padded raw) (length raw) c) (Err Size) h
 
-  pub told_form : (p : ℕ) → sized (length raw) c ≡ true → Some p ≡ lowest (length raw) (well_formed raw) → admission raw c ≡ Err (IllFormed p)
-  told_form p s h = opened s ∙ refuses _ p IllFormed _ h
+  pub told_form : (r : Refusal) → sized (length raw) c ≡ true → formed raw ≡ Err r → admission raw c ≡ Err r
+  told_form r s h = opened s ∙ refuses _ r IllFormed _ h
 
   -- from here on the table is read
-  module _ (table : List Form) (is : table ≡ padded raw) (s : sized (length raw) c ≡ true) (formed : None ≡ lowest (length raw) (well_formed raw)) where
-    after_form : admission raw c ≡ refused_at (lowest (length raw) (part_once table (length raw))) NotPartOnce (refused_at (lowest (length raw) (range_kept table (length raw) c)) OutOfRange (refused_at (lowest (length raw) (sets_agree table (length raw))) SetsUnfit (Ok tt)))
-    after_form = opened s ∙ ap (λ (t : List Form). checked raw t (length raw) c) (sym is) ∙ passes _ IllFormed _ formed
+  module _ (table : List Form) (n : ℕ) (is : table ≡ padded raw) (long : n ≡ length raw) (s : sized (length raw) c ≡ true) (form : formed raw ≡ Ok tt) where
+    after_form : admission raw c ≡ refused_at (lowest n (part_once table n)) NotPartOnce (refused_at (lowest n (range_kept table n c)) OutOfRange (refused_at (lowest n (sets_agree table n)) SetsUnfit (Ok tt)))
+    after_form = opened s ∙ passes _ IllFormed _ form ∙ ap₂ (λ (t : List Form) (m : ℕ). refused_at (lowest m (part_once t m)) NotPartOnce (refused_at (lowest m (range_kept t m c)) OutOfRange (refused_at (lowest m (sets_agree t m)) SetsUnfit (Ok tt)))) (sym is) (sym long)
 
-    pub told_use : (p : ℕ) → Some p ≡ lowest (length raw) (part_once table (length raw)) → admission raw c ≡ Err (NotPartOnce p)
-    told_use p h = after_form ∙ refuses _ p NotPartOnce _ h
+    pub told_use : (r : Refusal) → told NotPartOnce (lowest n (part_once table n)) ≡ Err r → admission raw c ≡ Err r
+    told_use r h = after_form ∙ refuses _ r NotPartOnce _ h
 
-    module _ (once : None ≡ lowest (length raw) (part_once table (length raw))) where
-      pub told_range : (p : ℕ) → Some p ≡ lowest (length raw) (range_kept table (length raw) c) → admission raw c ≡ Err (OutOfRange p)
-      told_range p h = after_form ∙ passes _ NotPartOnce _ once ∙ refuses _ p OutOfRange _ h
+    module _ (once : told NotPartOnce (lowest n (part_once table n)) ≡ Ok tt) where
+      pub told_range : (r : Refusal) → told OutOfRange (lowest n (range_kept table n c)) ≡ Err r → admission raw c ≡ Err r
+      told_range r h = after_form ∙ passes _ NotPartOnce _ once ∙ refuses _ r OutOfRange _ h
 
-      module _ (ranged : None ≡ lowest (length raw) (range_kept table (length raw) c)) where
-        pub told_sets : (p : ℕ) → Some p ≡ lowest (length raw) (sets_agree table (length raw)) → admission raw c ≡ Err (SetsUnfit p)
-        told_sets p h = after_form ∙ passes _ NotPartOnce _ once ∙ passes _ OutOfRange _ ranged ∙ refuses _ p SetsUnfit _ h
+      module _ (ranged : told OutOfRange (lowest n (range_kept table n c)) ≡ Ok tt) where
+        pub told_sets : (r : Refusal) → told SetsUnfit (lowest n (sets_agree table n)) ≡ Err r → admission raw c ≡ Err r
+        told_sets r h = after_form ∙ passes _ NotPartOnce _ once ∙ passes _ OutOfRange _ ranged ∙ refuses _ r SetsUnfit _ h
 
-        pub told_admitted : None ≡ lowest (length raw) (sets_agree table (length raw)) → admission raw c ≡ Ok tt
+        pub told_admitted : told SetsUnfit (lowest n (sets_agree table n)) ≡ Ok tt → admission raw c ≡ Ok tt
         told_admitted h = after_form ∙ passes _ NotPartOnce _ once ∙ passes _ OutOfRange _ ranged ∙ passes _ SetsUnfit _ h

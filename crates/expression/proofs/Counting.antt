@@ -4,7 +4,8 @@ use Rattle.std.proofs.lemmas.List.{get_or_past}
 use Rattle.std.proofs.lemmas.Bool.{cases_lt}
 use Rattle.expression.specs.declared.form.Form.{Form}
 use Rattle.expression.specs.declared.form.Form.TheVariants.{Zero, Node, Edge, Union, Mark, Out, Disjoint, Append, Graph, If, Recursion}
-use Rattle.expression.specs.Parts.{parts_of, here, times, Below, uses}
+use Rattle.expression.specs.Forms.{parts_of}
+use Rattle.expression.specs.Parts.{here, times, Below, uses}
 use Rattle.expression.proofs.Occurring.{here_cases}
 
 pub uses_none : (ps : List Form) (p : ℕ) → uses ps 0 p ≡ 0

@@ -3,8 +3,9 @@ use Rattle.std.proofs.Common.{◌≡◌, ℕ, zero, suc, ◌+◌, ◌-◌, ◌<�
 use Rattle.std.proofs.lemmas.Bool.{and_parts, and_from, leb-true, lt-ltb, eq-eqb, ne_eqb, cond-true, cond-false}
 use Rattle.expression.specs.declared.form.Form.{Form}
 use Rattle.expression.specs.declared.form.Form.TheVariants.{Zero, Node, Edge, Union, Mark, Out, Disjoint, Append, Graph, If, Recursion}
-use Rattle.expression.specs.Forms.{Tree, lower, Lower, grown, tree_at, ins, outs}
-use Rattle.expression.specs.Parts.{parts_of, here, times, raised}
+use Rattle.expression.specs.Forms.{Tree, lower, Lower, grown, tree_at, parts_of}
+use Rattle.expression.specs.Parts.{here, times, raised}
+use Rattle.expression.specs.Sets.{sets_of, sets_at}
 use Rattle.expression.specs.Rules.{fits, sets_fit, keeps}
 use Rattle.expression.specs.Admission.{part_once, fields_fit, level_at, range_kept, sets_hold, closed, sets_agree}
 use Rattle.expression.proofs.Trees.{unrolls, lower_tells}
@@ -48,7 +49,7 @@ module _ (c r l : ℕ) (T : ℕ → Tree) where
       (subst (λ (k : ℕ). fits c k (T b) ≡ true) body (part b (first_of b a)))
       (subst (λ (k : ℕ). fits c k (T a) ≡ true) argument (part a (second_of b a))))
 
-sets_grown : (r : ℕ) (T : ℕ → Tree) (q : Form) → sets_hold (λ e. ins (T e)) (λ e. outs (T e)) q ≡ true → Lower r q
+sets_grown : (r : ℕ) (T : ℕ → Tree) (q : Form) → sets_hold (λ e. sets_of (T e)) q ≡ true → Lower r q
     → ((e : ℕ) → e < r → sets_fit (T e) ≡ true) → sets_fit (grown q r T) ≡ true
 unfolding sets_fit
 sets_grown r T Zero h l part = refl
@@ -95,8 +96,8 @@ module _ (ps : List Form) (low : (k : ℕ) → lower k (get_or ps k Zero) ≡ tr
       let w = n - 1 in
       let last : suc w ≡ n = omega arith in
       let in_use : w < n = omega arith in
-      let whole : cond (eqb (suc w) n) (closed (ins (tree_at ps w)) (outs (tree_at ps w))) true ≡ true = (and_parts _ _ (agree w in_use)).1 in
+      let whole : cond (eqb (suc w) n) (closed (sets_at ps w)) true ≡ true = (and_parts _ _ (agree w in_use)).1 in
       and_from _ _
       (subst (λ (l : ℕ). fits c l (tree_at ps w) ≡ true) (whole_level ps low n once) (fits_below c range n w in_use in_use))
       (and_from _ _ (sets_below agree n w in_use in_use)
-      (sym (cond-true (eqb (suc w) n) (closed (ins (tree_at ps w)) (outs (tree_at ps w))) true (eq-eqb (suc w) n last)) ∙ whole))
+      (sym (cond-true (eqb (suc w) n) (closed (sets_at ps w)) true (eq-eqb (suc w) n last)) ∙ whole))

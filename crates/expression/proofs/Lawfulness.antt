@@ -7,8 +7,8 @@ use Rattle.expression.specs.declared.form.Form.{Form}
 use Rattle.expression.specs.declared.form.Form.TheVariants.{Zero, Node, Edge, Union, Mark, Out, Disjoint, Append, Graph, If, Recursion}
 use Rattle.expression.specs.declared.expression.Expression.{Expression}
 use Rattle.expression.specs.Markers.{no_markers, just, equal_flags, alike, apart, within}
-use Rattle.expression.specs.Forms.{Tree, t_zero, t_node, t_edge, t_union, t_mark, t_out, t_disjoint, t_append, t_graph, t_if, t_recursion, lower, Lower, grown, tree_at, ins, outs}
-use Rattle.expression.specs.Parts.{parts_of, times, place_of, raised}
+use Rattle.expression.specs.Forms.{Tree, t_zero, t_node, t_edge, t_union, t_mark, t_out, t_disjoint, t_append, t_graph, t_if, t_recursion, lower, Lower, grown, tree_at, ins, outs, parts_of}
+use Rattle.expression.specs.Parts.{times, place_of, raised}
 use Rattle.expression.specs.Rules.{term_fits, fits, sets_fit, keeps}
 use Rattle.expression.specs.Admission.{fields_fit}
 use Rattle.expression.specs.Law.{Apart, Within, TermIn, FieldsIn, Keeps, Drawn, PartLevels, expressed, level_of, Lawful}
@@ -168,9 +168,9 @@ part_levels_of L p (Recursion b a) one h =
 pub lawful : (x : Expression) → Lawful x
 unfolding keeps
 lawful x =
-    let ps = x.places in
-    let n = x.count in
-    let low = x.lower_parts in
+    let ps = x.table.forms in
+    let n = x.table.count in
+    let low = x.table.lower_parts in
     let t = expressed x in
     let some : 0 < n = x.some in
     let last : n - 1 < n = omega arith in

@@ -3,8 +3,8 @@ use Rattle.std.proofs.Common.{◌≡◌, ℕ, suc, ◌-◌, ◌<◌, ◌≤◌, 
 use Rattle.std.proofs.lemmas.Bool.{cases_lt, cond_both}
 use Rattle.expression.specs.declared.form.Form.{Form}
 use Rattle.expression.specs.declared.form.Form.TheVariants.{Zero, Node, Edge, Union, Mark, Out, Disjoint, Append, Graph, If, Recursion}
-use Rattle.expression.specs.Forms.{lower}
-use Rattle.expression.specs.Parts.{parts_of, times, raised}
+use Rattle.expression.specs.Forms.{lower, parts_of}
+use Rattle.expression.specs.Parts.{times, raised}
 use Rattle.expression.specs.Admission.{part_once, level_at}
 use Rattle.expression.proofs.Occurring.{here_same, below_at, user_of, user_above, times_above}
 use Rattle.expression.proofs.Rising.{whole_level, part_level}

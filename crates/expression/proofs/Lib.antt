@@ -3,6 +3,7 @@ pub mod Counting
 pub mod Entering
 pub mod Examples
 pub mod Filling
+pub mod Flags
 pub mod Keeping
 pub mod Lawfulness
 pub mod Levelling
@@ -10,6 +11,5 @@ pub mod Lowest
 pub mod Occurring
 pub mod Padding
 pub mod Rising
-pub mod Sets
 pub mod Single
 pub mod Trees

@@ -4,8 +4,8 @@ use Rattle.std.proofs.Common.{◌≡◌, ℕ, zero, suc, ◌+◌, ◌-◌, ◌<�
 use Rattle.std.proofs.lemmas.Bool.{eqb-true, eq-eqb, ne_eqb, cases_lt, cases_eq}
 use Rattle.expression.specs.declared.form.Form.{Form}
 use Rattle.expression.specs.declared.form.Form.TheVariants.{Zero, Node, Edge, Union, Mark, Out, Disjoint, Append, Graph, If, Recursion}
-use Rattle.expression.specs.Forms.{Tree, lower, Lower, grown, tree_at}
-use Rattle.expression.specs.Parts.{parts_of, here, times, Below, uses, place_of, occurrences}
+use Rattle.expression.specs.Forms.{Tree, lower, Lower, grown, tree_at, parts_of}
+use Rattle.expression.specs.Parts.{here, times, Below, uses, place_of, occurrences}
 use Rattle.expression.specs.Admission.{part_once}
 use Rattle.expression.proofs.Trees.{lower_tells, unrolls}
 

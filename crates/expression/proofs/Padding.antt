@@ -1,25 +1,44 @@
 -- Raw places as a table of 64 forms, place by place. Assumes nothing.
-use Rattle.std.proofs.Common.{◌≡◌, ℕ, zero, suc, ◌-◌, ◌<◌, ◌≤◌, true, false, List, [], ◌∷◌, map, length, get_or, replicate, Some, None, Option, sym, refl, ap, ◌∙◌, ⊎_elim, arith}
+use Rattle.std.proofs.Common.{◌≡◌, ℕ, zero, suc, ◌-◌, ◌<◌, ◌≤◌, Bool, true, false, cond, List, [], ◌∷◌, map, length, get_or, replicate, Some, None, Option, Ok, sym, refl, ap, ◌∙◌, ⊎_elim, arith}
 use Rattle.std.proofs.lemmas.List.{get_or-map, get_or_append_left, get_or-append_right, get_or-replicate, get_or_past, length-append, length-map, length-replicate, ext_get_or}
+use Rattle.std.proofs.lemmas.Map.Entries.{option_filter}
 use Rattle.std.proofs.lemmas.Bool.{cases_lt, both_ways}
 use Rattle.expression.specs.declared.form.Form.{Form}
 use Rattle.expression.specs.declared.form.Form.TheVariants.{Zero}
 use Rattle.expression.specs.declared.raw.RawPlace.{RawPlace}
+use Rattle.expression.specs.declared.refusal.Refusal.TheVariants.{IllFormed}
 use Rattle.expression.specs.Raw.{read, form_read, or_zero}
 use Rattle.expression.specs.Forms.{lower}
-use Rattle.expression.specs.Admission.{padded, lower_form, read_at, well_formed, lowest}
-use Rattle.expression.proofs.Lowest.{each_passes}
+use Rattle.expression.specs.Admission.{padded, lower_form, read_at, well_formed, lowest, formed}
+use Rattle.expression.proofs.Lowest.{each_passes, each_told}
 
--- a place in use, whose reading is o
-module _ (raw : List RawPlace) (k : ℕ) (d : RawPlace) (o : Option Form) (h : k < length raw) (is : o ≡ read (get_or raw k d)) where
-  pub well_formed_by : well_formed raw k ≡ lower_form k o
-  well_formed_by = ap (lower_form k) (get_or-map read raw k d None h ∙ sym is)
+-- a place in use, whose raw place is r
+module _ (raw : List RawPlace) (k : ℕ) (r d : RawPlace) (h : k < length raw) (is : r ≡ get_or raw k d) where
+  pub well_formed_by : well_formed raw k ≡ lower_form k (read r)
+  well_formed_by = ap (lower_form k) (get_or-map read raw k d None h ∙ ap read (sym is))
 
-  pub padded_by : get_or (padded raw) k Zero ≡ or_zero o
+  pub padded_by : get_or (padded raw) k Zero ≡ or_zero (read r)
   padded_by =
       let l : k < length (map form_read raw) = simp length-map h in
       get_or_append_left (map form_read raw) (replicate (64 - length raw) Zero) Zero k l
-      ∙ get_or-map form_read raw k d Zero h ∙ ap or_zero (sym is)
+      ∙ get_or-map form_read raw k d Zero h ∙ ap form_read (sym is)
+
+-- what is read of a place if its parts stand lower
+pub read_some : (k : ℕ) (o : Option Form) (form : Form) → Some form ≡ option_filter (lower k) o → (lower_form k o ≡ true) × (form ≡ or_zero o)
+read_some k None form h = absurd (cc)
+read_some k (Some q) form h = by (lower k q) refl h
+  where
+    by : (b : Bool) → lower k q ≡ b → Some form ≡ cond b (Some q) None → (lower k q ≡ true) × (form ≡ q)
+    by true e f = (e, cc)
+    by false e f = absurd (cc)
+
+pub read_none : (k : ℕ) (o : Option Form) → None ≡ option_filter (lower k) o → lower_form k o ≡ false
+read_none k None h = refl
+read_none k (Some q) h = by (lower k q) refl h
+  where
+    by : (b : Bool) → lower k q ≡ b → ◌≡◌ {A = Option Form} None (cond b (Some q) None) → lower k q ≡ false
+    by true e f = absurd (cc)
+    by false e f = e
 
 pub zeros_at : (n k : ℕ) → get_or (replicate n Zero) k Zero ≡ Zero
 zeros_at n k =
@@ -73,8 +92,8 @@ formed_is k (Some form) h = refl
 formed_is k None h = absurd (both_ways false refl h)
 
 -- and each of its forms is the one that its raw place names
-pub padded_read : (raw : List RawPlace) → lowest (length raw) (well_formed raw) ≡ None → (k : ℕ) → k < length raw → read_at raw k ≡ Some (get_or (padded raw) k Zero)
+pub padded_read : (raw : List RawPlace) → formed raw ≡ Ok tt → (k : ℕ) → k < length raw → read_at raw k ≡ Some (get_or (padded raw) k Zero)
 padded_read raw h k l =
     let m : k < length (map form_read raw) = simp length-map l in
-    formed_is k (read_at raw k) (each_passes (well_formed raw) (length raw) h k l)
+    formed_is k (read_at raw k) (each_told IllFormed (well_formed raw) (length raw) h k l)
     ∙ ap Some (sym (get_or_append_left (map form_read raw) (replicate (64 - length raw) Zero) Zero k m ∙ read_or_zero raw k))

@@ -3,8 +3,8 @@ use Rattle.std.proofs.Common.{◌≡◌, ℕ, zero, suc, ◌+◌, ◌-◌, ◌<�
 use Rattle.std.proofs.lemmas.Bool.{eq-eqb, ne_eqb, lt-ltb, le-ltb, cases_lt, cases_eq, cond-true, cond-false}
 use Rattle.expression.specs.declared.form.Form.{Form}
 use Rattle.expression.specs.declared.form.Form.TheVariants.{Zero, Node, Edge, Union, Mark, Out, Disjoint, Append, Graph, If, Recursion}
-use Rattle.expression.specs.Forms.{Tree, t_zero, t_node, t_edge, t_union, t_mark, t_out, t_disjoint, t_append, t_graph, t_if, t_recursion, lower, Lower, grown, tree_at}
-use Rattle.expression.specs.Parts.{parts_of, here, times, place_of, occurrences, raised, level_in}
+use Rattle.expression.specs.Forms.{Tree, t_zero, t_node, t_edge, t_union, t_mark, t_out, t_disjoint, t_append, t_graph, t_if, t_recursion, lower, Lower, grown, tree_at, parts_of}
+use Rattle.expression.specs.Parts.{here, times, place_of, occurrences, raised, level_in}
 use Rattle.expression.specs.Admission.{part_once, level_at}
 use Rattle.expression.proofs.Trees.{lower_tells, unrolls}
 use Rattle.expression.proofs.Occurring.{User, total, here_same, here_other, place_at, occurs_at, occurs_above, occurs_by_user, user_of, occurs_once, times_above, below_at}

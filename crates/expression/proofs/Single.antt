@@ -1,23 +1,23 @@
 -- The table of one node passes every check. Assumes nothing.
-use Rattle.std.proofs.Common.{◌≡◌, ℕ, zero, suc, ◌<◌, ◌≤◌, true, List, length, get_or, set, replicate, None, sym, refl, ap, subst, not-suc-le-zero, arith}
+use Rattle.std.proofs.Common.{◌≡◌, ℕ, zero, suc, ◌-◌, ◌<◌, ◌≤◌, true, List, get_or, set, replicate, None, sym, refl, ap, subst, not-suc-le-zero, arith}
 use Rattle.expression.specs.declared.form.Form.{Form}
 use Rattle.expression.specs.declared.form.Form.TheVariants.{Zero, Node}
 use Rattle.expression.specs.Forms.{lower, tree_at, tree_in, ins, outs}
 use Rattle.expression.specs.Parts.{uses, level_in}
 use Rattle.expression.specs.Rules.{keeps}
-use Rattle.expression.specs.Admission.{part_once, level_at, range_kept, sets_agree, lowest}
+use Rattle.expression.specs.Admission.{part_once, level_at, HasLevels, range_kept, sets_agree, lowest}
 use Rattle.expression.proofs.Lowest.{each_passes}
 use Rattle.expression.proofs.Keeping.{kept}
 use Rattle.expression.proofs.Padding.{zeros_at}
 
-abbrev single : List Form
+abbrev pub single : List Form
 single = set (replicate 64 Zero) 0 Node
 
-single_rest : (k : ℕ) → 1 ≤ k → get_or single k Zero ≡ Zero
+pub single_rest : (k : ℕ) → 1 ≤ k → get_or single k Zero ≡ Zero
 single_rest zero h = absurd (not-suc-le-zero h)
 single_rest (suc k) h = zeros_at 63 k
 
-single_lower : (k : ℕ) → lower k (get_or single k Zero) ≡ true
+pub single_lower : (k : ℕ) → lower k (get_or single k Zero) ≡ true
 single_lower zero = refl
 single_lower (suc k) = ap (lower (suc k)) (zeros_at 63 k)
 
@@ -47,16 +47,14 @@ single_level (suc k) h = let z : ⊥ = omega arith in absurd z
 single_keeps : keeps 0 (tree_at single 0) ≡ true
 single_keeps = kept single single_lower 1 single_once 0 (omega arith) single_range (each_passes (sets_agree single 1) 1 sets_right)
 
--- what the rules ask of a table of one place without constants
-abbrev pub Passes : List Form → Type 0
-Passes ps =
-    (length ps ≡ 64)
-    × ((k : ℕ) → 1 ≤ k → get_or ps k Zero ≡ Zero)
-    × ((k : ℕ) → lower k (get_or ps k Zero) ≡ true)
-    × ((k : ℕ) → k < 1 → part_once ps 1 k ≡ true)
-    × ((k : ℕ) → k < 1 → get_or (replicate 64 0) k 0 ≡ level_at ps 1 k)
-    × ((k : ℕ) → k < 1 → range_kept ps 1 0 k ≡ true)
-    × (keeps 0 (tree_at ps 0) ≡ true)
+-- what the rules ask of a table of so many places without constants, and its levels
+abbrev pub Passes : List Form → ℕ → Type 0
+Passes ps n =
+    ((k : ℕ) → k < n → part_once ps n k ≡ true)
+    × HasLevels ps n (replicate 64 0)
+    × ((k : ℕ) → k < n → range_kept ps n 0 k ≡ true)
+    × (keeps 0 (tree_at ps (n - 1)) ≡ true)
 
-pub single_passes : (ps : List Form) → ps ≡ single → Passes ps
-single_passes ps is = subst Passes (sym is) (refl, single_rest, single_lower, single_once, single_level, single_range, single_keeps)
+pub single_passes : (ps : List Form) (n : ℕ) → ps ≡ single → n ≡ 1 → Passes ps n
+single_passes ps n is one =
+    subst (Passes ps) (sym one) (subst (λ (qs : List Form). Passes qs 1) (sym is) (single_once, single_level, single_range, single_keeps))

@@ -1,11 +1,10 @@
 -- A place's tree is its form over its parts' trees. Assumes nothing.
-use Rattle.std.proofs.Common.{◌≡◌, ℕ, zero, suc, ◌<◌, ◌≤◌, true, List, length, get_or, sym, refl, ap, ◌∙◌, ap₂, not-suc-le-zero, arith}
+use Rattle.std.proofs.Common.{◌≡◌, ℕ, zero, suc, ◌<◌, ◌≤◌, true, List, length, get_or, refl, ap, ◌∙◌, ap₂, not-suc-le-zero, arith}
 use Rattle.std.proofs.lemmas.List.{get_or_past}
 use Rattle.std.proofs.lemmas.Bool.Decides.{nat_tests}
 use Rattle.expression.specs.declared.form.Form.{Form}
 use Rattle.expression.specs.declared.form.Form.TheVariants.{Zero, Node, Edge, Union, Mark, Out, Disjoint, Append, Graph, If, Recursion}
-use Rattle.expression.specs.Forms.{Tree, t_zero, t_edge, t_union, t_mark, t_disjoint, t_append, t_if, t_recursion, lower, Lower, grown, tree_in, tree_at, ins, outs}
-use Rattle.expression.specs.Markers.{no_markers}
+use Rattle.expression.specs.Forms.{Tree, t_zero, t_edge, t_union, t_mark, t_disjoint, t_append, t_if, t_recursion, lower, Lower, grown, tree_in, tree_at}
 
 -- what the test of lower parts says
 pub lower_tells : (k : ℕ) (q : Form) → lower k q ≡ true → Lower k q
@@ -52,11 +51,3 @@ unrolls ps low p =
 -- a place past the end is a Zero
 pub past : (ps : List Form) → ((k : ℕ) → lower k (get_or ps k Zero) ≡ true) → (p : ℕ) → length ps ≤ p → tree_at ps p ≡ t_zero p
 past ps low p h = unrolls ps low p ∙ ap (λ (q : Form). grown q p (tree_at ps)) (get_or_past ps p Zero h)
-
-pub past_ins : (ps : List Form) → ((k : ℕ) → lower k (get_or ps k Zero) ≡ true) → (p : ℕ) → length ps ≤ p → no_markers ≡ ins (tree_at ps p)
-unfolding ins
-past_ins ps low p h = sym (ap ins (past ps low p h))
-
-pub past_outs : (ps : List Form) → ((k : ℕ) → lower k (get_or ps k Zero) ≡ true) → (p : ℕ) → length ps ≤ p → no_markers ≡ outs (tree_at ps p)
-unfolding outs
-past_outs ps low p h = sym (ap outs (past ps low p h))

@@ -12,24 +12,29 @@
 --   fields_fit c l form     the variables, constants and markers of a form at the level l
 --   form_in_range c l form  the level l, and the variables, constants and markers of a form there
 --   level_at table n p      the level of the place p in the tree of the last place
+--   HasLevels table n levels    a table of levels has those of the first n places
 --   range_kept table n c p  the form at p keeps to its range there
---   sets_hold ins outs form the condition of a form, by the sets of its parts
---   closed in out           the sets of a whole: marker 0 alone in, nothing out
+--   closed sets             the sets of a whole: marker 0 alone in, nothing out
+--   sets_hold part form     the condition of a form, by the sets of its parts
 --   sets_agree table n p    the condition of the form at p; at the last place also the whole's own
 --   sets_agree_by           the same, for any sets of the places
 --   or_here                 one more place looked at: what was found before, or this place
 --   lowest n test           the lowest of the first n places at which a test fails
+--   told refusal found      what a check answers: the refusal for the place that was found, if any
+--   formed raw              what the check of the letters and the lower parts answers
 --   refused_at              the refusal for such a place, or else the next check's answer
 --   checked raw table n c   the answer of the checks that go over the places
 --   admission raw c         what admission answers
-use Rattle.std.specs.Prelude.{ℕ, zero, suc, ◌-◌, Bool, true, false, cond, ◌&&◌, List, ◌++◌, map, length, replicate, Some, None, Ok, Err, Option, Result, ◌==◌, nat_le, nat_lt, slice_index_or}
+use Rattle.std.specs.Prelude.{◌≡◌, ℕ, zero, suc, ◌-◌, ◌<◌, Bool, true, false, cond, ◌&&◌, List, ◌++◌, map, length, replicate, Some, None, Ok, Err, Option, Result, ◌==◌, nat_le, nat_lt, slice_index, slice_index_or}
 use Rattle.expression.specs.declared.form.Form.{Form}
 use Rattle.expression.specs.declared.form.Form.TheVariants.{Zero, Node, Edge, Union, Mark, Out, Disjoint, Append, Graph, If, Recursion}
 use Rattle.expression.specs.declared.raw.RawPlace.{RawPlace}
 use Rattle.expression.specs.declared.refusal.Refusal.{Refusal}
 use Rattle.expression.specs.declared.refusal.Refusal.TheVariants.{Size, IllFormed, NotPartOnce, OutOfRange, SetsUnfit}
 use Rattle.expression.specs.Markers.{no_markers, just, alike, apart, within}
-use Rattle.expression.specs.Forms.{lower, tree_at, ins, outs}
+use Rattle.expression.specs.declared.sets.Sets.{Sets}
+use Rattle.expression.specs.Forms.{lower, tree_at}
+use Rattle.expression.specs.Sets.{sets_at}
 use Rattle.expression.specs.Rules.{term_fits}
 use Rattle.expression.specs.Raw.{read, form_read}
 use Rattle.expression.specs.Parts.{uses, level_in}
@@ -75,32 +80,34 @@ form_in_range c l form = nat_le l 4 && fields_fit c l form
 abbrev pub level_at : List Form → ℕ → ℕ → ℕ
 level_at table n p = level_in p 0 (tree_at table (n - 1))
 
+abbrev pub HasLevels : List Form → ℕ → List ℕ → Type 0
+HasLevels table n levels = (p : ℕ) → p < n → slice_index levels p ≡ level_at table n p
+
 abbrev pub range_kept : List Form → ℕ → ℕ → ℕ → Bool
 range_kept table n c p = form_in_range c (level_at table n p) (slice_index_or table p Zero)
 
 -- 15
-abbrev pub sets_hold : (ℕ → List Bool) → (ℕ → List Bool) → Form → Bool
-sets_hold into from Zero = true
-sets_hold into from Node = true
-sets_hold into from (Edge t e) = alike (into e) (just 0)
-sets_hold into from (Union e f) = alike (into e) (into f)
-sets_hold into from (Mark m e) = alike (into e) (just 0)
-sets_hold into from (Out m) = true
-sets_hold into from (Disjoint e f) = apart (into e) (into f)
-sets_hold into from (Append e f) = true
-sets_hold into from (Graph j) = true
-sets_hold into from (If s t e f) = alike (into e) (into f)
-sets_hold into from (Recursion b a) = (alike (into a) (just 0) && alike (from a) no_markers) && within (from b) (into b)
+abbrev pub closed : Sets → Bool
+closed whole = alike whole.in_set (just 0) && alike whole.out_set no_markers
 
-abbrev pub closed : List Bool → List Bool → Bool
-closed i o = alike i (just 0) && alike o no_markers
+abbrev pub sets_hold : (ℕ → Sets) → Form → Bool
+sets_hold part Zero = true
+sets_hold part Node = true
+sets_hold part (Edge t e) = alike (part e).in_set (just 0)
+sets_hold part (Union e f) = alike (part e).in_set (part f).in_set
+sets_hold part (Mark m e) = alike (part e).in_set (just 0)
+sets_hold part (Out m) = true
+sets_hold part (Disjoint e f) = apart (part e).in_set (part f).in_set
+sets_hold part (Append e f) = true
+sets_hold part (Graph j) = true
+sets_hold part (If s t e f) = alike (part e).in_set (part f).in_set
+sets_hold part (Recursion b a) = closed (part a) && within (part b).out_set (part b).in_set
 
-abbrev pub sets_agree_by : (ℕ → List Bool) → (ℕ → List Bool) → List Form → ℕ → ℕ → Bool
-sets_agree_by into from table n p =
-    sets_hold into from (slice_index_or table p Zero) && cond (suc p == n) (closed (into p) (from p)) true
+abbrev pub sets_agree_by : (ℕ → Sets) → List Form → ℕ → ℕ → Bool
+sets_agree_by at table n p = sets_hold at (slice_index_or table p Zero) && cond (suc p == n) (closed (at p)) true
 
 abbrev pub sets_agree : List Form → ℕ → ℕ → Bool
-sets_agree table n p = sets_agree_by (λ e. ins (tree_at table e)) (λ e. outs (tree_at table e)) table n p
+sets_agree table n p = sets_agree_by (sets_at table) table n p
 
 -- the first failing check, and its lowest place
 abbrev pub or_here : Option ℕ → Bool → ℕ → Option ℕ
@@ -111,6 +118,13 @@ or_here None false here = Some here
 unfoldable pub lowest : ℕ → (ℕ → Bool) → Option ℕ
 lowest zero test = None
 lowest (suc n) test = or_here (lowest n test) (test n) n
+
+abbrev pub told : (ℕ → Refusal) → Option ℕ → Result (Unit {0}) Refusal
+told refusal (Some p) = Err (refusal p)
+told refusal None = Ok tt
+
+abbrev pub formed : List RawPlace → Result (Unit {0}) Refusal
+formed raw = told IllFormed (lowest (length raw) (well_formed raw))
 
 abbrev pub refused_at : Option ℕ → (ℕ → Refusal) → Result (Unit {0}) Refusal → Result (Unit {0}) Refusal
 refused_at (Some p) refusal next = Err (refusal p)

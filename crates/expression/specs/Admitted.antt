@@ -13,17 +13,17 @@ use Rattle.expression.specs.Forms.{Tree, tree_at}
 use Rattle.expression.specs.Admission.{padded, read_at}
 
 abbrev pub form_of : Expression → ℕ → Form
-form_of x p = slice_index_or x.places p Zero
+form_of x p = slice_index_or x.table.forms p Zero
 
 abbrev pub tree_of : Expression → ℕ → Tree
-tree_of x p = tree_at x.places p
+tree_of x p = tree_at x.table.forms p
 
 abbrev pub whole_of : Expression → ℕ
-whole_of x = x.count - 1
+whole_of x = x.table.count - 1
 
 -- each form as it is read off its raw place, and Zeros up to the 64th place
 pub record Holds (raw : List RawPlace) (c : ℕ) (x : Expression) : Type 0 where
-  pub table : x.places ≡ padded raw
-  pub size : x.count ≡ length raw
+  pub table : x.table.forms ≡ padded raw
+  pub size : x.table.count ≡ length raw
   pub constant_count : x.constants ≡ c
   pub forms : (p : ℕ) → p < length raw → read_at raw p ≡ Some (form_of x p)

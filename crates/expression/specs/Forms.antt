@@ -2,11 +2,13 @@
 --
 --   Tree            an expression; each node of the tree has its place first
 --   ins, outs       the in-set and the out-set of an expression
+--   parts_of form   the parts of a form, in their order
 --   lower k form    whether the parts of the form at place k stand at lower places
 --   Lower k form    the same, as a fact
 --   grown           the tree of a form at a place, from the trees of its parts
 --   tree_at         the tree of a place of a table; a place past the table's end is a Zero
-use Rattle.std.specs.Prelude.{ℕ, zero, suc, ◌<◌, Bool, true, ◌&&◌, List, nat_lt, slice_index_or}
+use Rattle.std.specs.Prelude.{ℕ, zero, suc, ◌<◌, Bool, List, [], ◌∷◌, nat_lt, slice_index_or}
+use Rattle.std.specs.List.{list_all}
 use Rattle.expression.specs.declared.term.Term.{Term}
 use Rattle.expression.specs.declared.form.Form.{Form}
 use Rattle.expression.specs.declared.form.Form.TheVariants.{Zero, Node, Edge, Union, Mark, Out, Disjoint, Append, Graph, If, Recursion}
@@ -53,18 +55,21 @@ outs (t_graph p j) = no_markers
 outs (t_if p s t e f) = both (outs e) (outs f)
 outs (t_recursion p b a) = no_markers
 
+abbrev pub parts_of : Form → List ℕ
+parts_of Zero = []
+parts_of Node = []
+parts_of (Edge t e) = e ∷ []
+parts_of (Union e f) = e ∷ f ∷ []
+parts_of (Mark m e) = e ∷ []
+parts_of (Out m) = []
+parts_of (Disjoint e f) = e ∷ f ∷ []
+parts_of (Append e f) = e ∷ f ∷ []
+parts_of (Graph j) = []
+parts_of (If s t e f) = e ∷ f ∷ []
+parts_of (Recursion b a) = b ∷ a ∷ []
+
 abbrev pub lower : ℕ → Form → Bool
-lower k Zero = true
-lower k Node = true
-lower k (Edge t e) = nat_lt e k
-lower k (Union e f) = nat_lt e k && nat_lt f k
-lower k (Mark m e) = nat_lt e k
-lower k (Out m) = true
-lower k (Disjoint e f) = nat_lt e k && nat_lt f k
-lower k (Append e f) = nat_lt e k && nat_lt f k
-lower k (Graph j) = true
-lower k (If s t e f) = nat_lt e k && nat_lt f k
-lower k (Recursion b a) = nat_lt b k && nat_lt a k
+lower k form = list_all (λ e. nat_lt e k) (parts_of form)
 
 abbrev pub Lower : ℕ → Form → Type 0
 Lower k Zero = Unit {0}

@@ -8,6 +8,7 @@
 --   apart a b     whether a and b have no marker in common
 --   within a b    whether b has every marker of a
 use Rattle.std.specs.Prelude.{ℕ, Bool, true, false, not, ◌&&◌, ◌||◌, List, [], ◌∷◌, replicate, slice_set}
+use Rattle.std.specs.List.{list_all, zip}
 
 abbrev pub no_markers : List Bool
 no_markers = replicate 8 false
@@ -31,9 +32,7 @@ alike (a ∷ more) [] = false
 alike (a ∷ more) (b ∷ bs) = equal_flags a b && alike more bs
 
 abbrev pub apart : List Bool → List Bool → Bool
-apart [] bs = true
-apart (a ∷ more) [] = true
-apart (a ∷ more) (b ∷ bs) = not (a && b) && apart more bs
+apart a b = list_all (λ flags. not (flags.0 && flags.1)) (zip a b)
 
 abbrev pub within : List Bool → List Bool → Bool
 within [] bs = true

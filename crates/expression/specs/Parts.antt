@@ -1,6 +1,5 @@
 -- The places of a table and of a tree: who is whose part, and at which level. Assumes nothing.
 --
---   parts_of form         the parts of a form, in their order
 --   here p q              1 where p and q are one place, and else 0
 --   times p list          how often p stands in a list
 --   uses table n p        how often p is a part of the first n places of a table
@@ -14,20 +13,7 @@
 use Rattle.std.specs.Prelude.{ℕ, zero, suc, ◌+◌, ◌<◌, Bool, cond, List, [], ◌∷◌, ◌==◌, nat_lt, slice_index_or}
 use Rattle.expression.specs.declared.form.Form.{Form}
 use Rattle.expression.specs.declared.form.Form.TheVariants.{Zero, Node, Edge, Union, Mark, Out, Disjoint, Append, Graph, If, Recursion}
-use Rattle.expression.specs.Forms.{Tree, t_zero, t_node, t_edge, t_union, t_mark, t_out, t_disjoint, t_append, t_graph, t_if, t_recursion}
-
-abbrev pub parts_of : Form → List ℕ
-parts_of Zero = []
-parts_of Node = []
-parts_of (Edge t e) = e ∷ []
-parts_of (Union e f) = e ∷ f ∷ []
-parts_of (Mark m e) = e ∷ []
-parts_of (Out m) = []
-parts_of (Disjoint e f) = e ∷ f ∷ []
-parts_of (Append e f) = e ∷ f ∷ []
-parts_of (Graph j) = []
-parts_of (If s t e f) = e ∷ f ∷ []
-parts_of (Recursion b a) = b ∷ a ∷ []
+use Rattle.expression.specs.Forms.{Tree, parts_of, t_zero, t_node, t_edge, t_union, t_mark, t_out, t_disjoint, t_append, t_graph, t_if, t_recursion}
 
 abbrev pub here : ℕ → ℕ → ℕ
 here p q = cond (p == q) 1 0

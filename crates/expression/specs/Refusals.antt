@@ -1,9 +1,13 @@
--- What each refusal of admission is: its number, and the place that it names. Assumes nothing.
+-- What each refusal of admission is: its number, the place that it names, and how it is printed.
+-- Assumes nothing.
 --
 --   meaning r      the number of the refusal r, and the place that it names, if any
 --   number_of r    its number
 --   place_of r     its place
-use Rattle.std.specs.Prelude.{ℕ, Some, None, Option}
+--   with_place     a text, and behind it the place, if there is one
+--   printed r      the refusal as it is printed, as `11` or `14 place=3`
+use Rattle.std.specs.Prelude.{ℕ, List, ◌++◌, Some, None, Option, codes}
+use Rattle.std.specs.Fmt.{decimal}
 use Rattle.expression.specs.declared.refusal.Refusal.{Refusal}
 use Rattle.expression.specs.declared.refusal.Refusal.TheVariants.{Size, IllFormed, NotPartOnce, OutOfRange, SetsUnfit}
 
@@ -19,3 +23,10 @@ number_of r = (meaning r).0
 
 abbrev pub place_of : Refusal → Option ℕ
 place_of r = (meaning r).1
+
+abbrev pub with_place : List ℕ → Option ℕ → List ℕ
+with_place text None = text
+with_place text (Some place) = text ++ codes " place=" ++ decimal place
+
+abbrev pub printed : Refusal → List ℕ
+printed r = with_place (decimal (number_of r)) (place_of r)

@@ -12,6 +12,7 @@ pub mod parts;
 pub mod raw;
 pub mod reading;
 pub mod refusal;
+mod sets;
 mod table;
 pub mod term;
 mod uses;

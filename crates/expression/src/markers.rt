@@ -1,14 +1,15 @@
 // Sets of markers: a flag for each marker.
 ghost use Rattle.std.specs.Prelude.{◌≡◌};
-ghost use Rattle.expression.specs.Markers.{no_markers, just as just_of, both as both_of, alike as alike_to, apart as apart_from, within as within_of};
+ghost use Rattle.expression.specs.Markers.{just as just_of, both as both_of, apart as apart_from, within as within_of};
 
 use crate::expression::MARKERS;
+use std::array;
 
 // The set that has one marker alone; a number that is no marker gives the empty set.
-pub(crate) fn just(marker: usize) -> [bool; 8]
+pub(crate) fn just(marker: usize) -> [bool; MARKERS]
     ensures { result ≡ just_of marker }
 {
-    let mut set = [false; 8];
+    let mut set = [false; MARKERS];
     if marker < MARKERS {
         set[marker] = true;
     }
@@ -16,48 +17,22 @@ pub(crate) fn just(marker: usize) -> [bool; 8]
 }
 
 // The markers that one set or the other has.
-pub(crate) fn both(left: [bool; 8], right: [bool; 8]) -> [bool; 8]
+pub(crate) fn both(left: [bool; MARKERS], right: [bool; MARKERS]) -> [bool; MARKERS]
     ensures { result ≡ both_of left right }
 {
-    let mut set = left;
-    for marker in 0..MARKERS {
-        set[marker] = left[marker] || right[marker];
-    }
-    set
-}
-
-// Whether the two sets have the same markers.
-pub(crate) fn alike(left: [bool; 8], right: [bool; 8]) -> bool
-    ensures { result ≡ alike_to left right }
-{
-    for marker in 0..MARKERS {
-        if left[marker] != right[marker] {
-            return false;
-        }
-    }
-    true
+    array::from_fn(|marker| left[marker] || right[marker])
 }
 
 // Whether the two sets have no marker in common.
-pub(crate) fn apart(left: [bool; 8], right: [bool; 8]) -> bool
+pub(crate) fn apart(left: [bool; MARKERS], right: [bool; MARKERS]) -> bool
     ensures { result ≡ apart_from left right }
 {
-    for marker in 0..MARKERS {
-        if left[marker] && right[marker] {
-            return false;
-        }
-    }
-    true
+    left.iter().zip(&right).all(|(l, r)| !(*l && *r))
 }
 
 // Whether the second set has every marker of the first.
-pub(crate) fn within(left: [bool; 8], right: [bool; 8]) -> bool
+pub(crate) fn within(left: [bool; MARKERS], right: [bool; MARKERS]) -> bool
     ensures { result ≡ within_of left right }
 {
-    for marker in 0..MARKERS {
-        if left[marker] && !right[marker] {
-            return false;
-        }
-    }
-    true
+    left.iter().zip(&right).all(|(l, r)| !*l || *r)
 }

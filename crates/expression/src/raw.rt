@@ -7,7 +7,7 @@ use crate::term::Term;
 
 // A place that nobody has looked at yet: anything at all may stand in it. A form uses the fields
 // that it has, and the others are free.
-#[derive(Clone, Copy)]
+#[derive(Clone, Copy, Debug, PartialEq, Eq, Hash)]
 pub struct RawPlace {
     // the form's letter
     pub letter: char,

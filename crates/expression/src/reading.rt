@@ -2,27 +2,22 @@
 ghost use Rattle.std.specs.Prelude.{◌≡◌, ◌<◌, ◌≤◌, true, if◌then◌else◌, Some as Present, None as Absent, nat_lt};
 ghost use Rattle.expression.specs.Admitted.{tree_of, whole_of, form_of};
 ghost use Rattle.expression.specs.Forms.{Lower, grown, ins as tree_ins, outs as tree_outs};
+ghost use Rattle.expression.specs.Sets.{sets_at};
 ghost use Rattle.expression.specs.Law.{Lawful, level_of};
 ghost use Rattle.expression.specs.Rules.{keeps};
 
-use crate::expression::{Expression, PLACES};
+use crate::expression::{Expression, MARKERS};
 use crate::form::Form;
+use crate::sets::Sets;
 
 impl Expression {
-    // The law holds of each expression that there is.
-    fn keep_law(&self)
-        ensures { Lawful self.now }
-    {}
-
     // How many places the expression has. Whatever expression this is asked of keeps the law.
     pub fn count(&self) -> usize
-        ensures value { result ≡ self.now.count }
+        ensures value { result ≡ self.now.table.count }
         ensures bound { (0 < result) × (result ≤ 64) }
         ensures law { Lawful self.now }
     {
-        let places = self.count;
-        self.keep_law();
-        places
+        self.table.count
     }
 
     // How many constants the expression has.
@@ -39,18 +34,14 @@ impl Expression {
         ensures bound { result < 64 }
         ensures rules { keeps self.now.constants (tree_of self.now result) ≡ true }
     {
-        self.count - 1
+        self.count() - 1
     }
 
     // The form that the table has at a place; past the end a Zero.
     fn stored(&self, place: usize) -> Form
         ensures { result ≡ form_of self.now place }
     {
-        if place < PLACES {
-            self.places[place]
-        } else {
-            Form::Zero
-        }
+        self.table.forms.get(place).copied().unwrap_or(Form::Zero)
     }
 
     // The form of a place, whose parts stand lower; past the end a Zero.
@@ -62,36 +53,31 @@ impl Expression {
         self.stored(place)
     }
 
+    // The sets of a place; past the end those of a Zero.
+    fn sets(&self, place: usize) -> Sets
+        ensures { result ≡ sets_at self.now.table.forms place }
+    {
+        self.sets.get(place).copied().unwrap_or(Sets::EMPTY)
+    }
+
     // The in-set of a place.
-    pub fn in_set(&self, place: usize) -> [bool; 8]
+    pub fn in_set(&self, place: usize) -> [bool; MARKERS]
         ensures { result ≡ tree_ins (tree_of self.now place) }
     {
-        if place < PLACES {
-            self.in_sets[place]
-        } else {
-            [false; 8]
-        }
+        self.sets(place).in_set
     }
 
     // The out-set of a place.
-    pub fn out_set(&self, place: usize) -> [bool; 8]
+    pub fn out_set(&self, place: usize) -> [bool; MARKERS]
         ensures { result ≡ tree_outs (tree_of self.now place) }
     {
-        if place < PLACES {
-            self.out_sets[place]
-        } else {
-            [false; 8]
-        }
+        self.sets(place).out_set
     }
 
     // The level of a place; none past the end.
     pub fn level(&self, place: usize) -> Option<usize>
-        ensures { result ≡ (if nat_lt place self.now.count then Present (level_of self.now place) else Absent) }
+        ensures { result ≡ (if nat_lt place self.now.table.count then Present (level_of self.now place) else Absent) }
     {
-        if place < self.count {
-            Some(self.levels[place])
-        } else {
-            None
-        }
+        self.levels[..self.count()].get(place).copied()
     }
 }

@@ -1,9 +1,11 @@
 // Why an expression is not admitted.
-ghost use Rattle.std.specs.Prelude.{◌≡◌};
-ghost use Rattle.expression.specs.Refusals.{number_of, place_of};
+ghost use Rattle.std.specs.Prelude.{◌≡◌, Some as Printed};
+ghost use Rattle.expression.specs.Refusals.{number_of, place_of, printed};
+
+use std::fmt;
 
 // The first check that failed, with the lowest place at which it did.
-#[derive(Clone, Copy, Debug, PartialEq)]
+#[derive(Clone, Copy, Debug, PartialEq, Eq, Hash)]
 pub enum Refusal {
     // no place, more than 64 places, or more than 32 constants
     Size,
@@ -37,10 +39,23 @@ impl Refusal {
     {
         match self {
             Refusal::Size => None,
-            Refusal::IllFormed(place) => Some(place),
-            Refusal::NotPartOnce(place) => Some(place),
-            Refusal::OutOfRange(place) => Some(place),
-            Refusal::SetsUnfit(place) => Some(place),
+            Refusal::IllFormed(place)
+            | Refusal::NotPartOnce(place)
+            | Refusal::OutOfRange(place)
+            | Refusal::SetsUnfit(place) => Some(place),
+        }
+    }
+}
+
+// The number, and the place if it names one: `11`, `14 place=3`.
+impl fmt::Display for Refusal {
+    ghost output = { λ refusal. Printed (printed refusal) };
+
+    fn fmt<W: fmt::Write>(&self, f: &mut fmt::Formatter<W>) -> fmt::Result {
+        let number = self.number();
+        match self.place() {
+            Some(place) => write!(f, "{number} place={place}"),
+            None => write!(f, "{number}"),
         }
     }
 }

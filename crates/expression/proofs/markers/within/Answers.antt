@@ -1,25 +1,13 @@
-use Rattle.std.proofs.Common.{Bool, not, ◌||◌, refl, ap₂, arith}
-use Rattle.expression.specs.Markers.{within}
-use Rattle.expression.proofs.Sets.{flags_pass, flags_fail, flags_end}
+use Rattle.std.proofs.Common.{◌≡◌, Bool, true, false, not, ◌||◌, arith, rules, tests}
+use Rattle.std.proofs.lemmas.Iterator.{cases_from_all, YieldsList-from_slice, YieldsList-from_zip}
+use Rattle.expression.proofs.Flags.{within_tells}
 use Rattle.expression.proofs.markers.within.Goals as goal
-use Rattle.expression.proofs.markers.within.Goals.{else-left-marker-via-then-left-marker+else-not-right-marker, else-left-marker-via-else-left-marker}
-
-abbrev has_too : Bool → Bool → Bool
-has_too a b = not a || b
-
-pub returns-then-not-right-marker : goal.returns-then-not-right-marker
-returns-then-not-right-marker c =
-    flags_fail within has_too (λ a b us vs. refl) c.args.left c.args.right (omega arith) (omega arith) c.loop-marker.marker (omega arith) c.loop-marker.invariant
-    (ap₂ has_too c.if-left-marker.true c.if-not-right-marker.true)
-
-pub loop-marker-preserved : goal.loop-marker-preserved
-loop-marker-preserved c =
-    flags_pass within has_too (λ a b us vs. refl) c.args.left c.args.right (omega arith) (omega arith) c.loop-marker.marker (omega arith) c.loop-marker.invariant
-    (elim c.else-left-marker.branch [
-      | else-left-marker-via-then-left-marker+else-not-right-marker w ↦ grind (arith, w.if-not-right-marker.false)
-      | else-left-marker-via-else-left-marker w ↦ grind (arith, w.if-left-marker.false)
-    ])
 
 pub returns : goal.returns
 returns c =
-    flags_end within has_too (λ a b us vs. refl) c.args.left c.args.right (omega arith) (omega arith) c.loop-marker.marker (omega arith) c.loop-marker.invariant
+    let xs = c.args.left in
+    let ys = c.args.right in
+    within_tells xs ys (omega arith) c.all.result
+    (cases_from_all c.all.new.self _ c.all.result (λ (flags : Bool × Bool). (not flags.0 || flags.1) ≡ true) (λ (flags : Bool × Bool). (not flags.0 || flags.1) ≡ false) c.all.ensures.ran
+    (YieldsList-from_zip (YieldsList-from_slice {s = c.zip.result.a} xs cc) (YieldsList-from_slice {s = c.zip.result.b} ys cc))
+    (λ x q k. search (rules, tests)) (λ x q k. search (rules, tests)))

@@ -1,17 +1,11 @@
-use Rattle.std.proofs.Common.{get_or, sym, ap, ◌∙◌, subst}
+use Rattle.std.proofs.Common.{sym, ap, ◌∙◌}
 use Rattle.expression.specs.declared.form.Form.{Form}
-use Rattle.expression.specs.declared.form.Form.TheVariants.{Zero}
-use Rattle.expression.specs.Forms.{Lower, grown, tree_at}
-use Rattle.expression.proofs.Trees.{unrolls, lower_tells}
+use Rattle.expression.specs.Forms.{grown, tree_at}
+use Rattle.expression.proofs.Trees.{unrolls}
 use Rattle.expression.proofs.expression.Expression.form.Goals as goal
 
-pub returns : goal.returns
-returns c =
-    let x = c.args.self.now in
+pub returns-clause-tree : goal.returns-clause-tree
+returns-clause-tree c =
+    let table = c.args.self.now.table in
     let p = c.args.place in
-    let is = c.stored.ensures in
-    record {
-      value = is;
-      tree = unrolls x.places x.lower_parts p ∙ ap (λ (q : Form). grown q p (tree_at x.places)) (sym is);
-      low = subst (Lower p) (sym is) (lower_tells p (get_or x.places p Zero) (x.lower_parts p));
-    }
+    unrolls table.forms table.lower_parts p ∙ ap (λ (q : Form). grown q p (tree_at table.forms)) (sym c.stored.ensures)

@@ -1,9 +1,0 @@
-use Rattle.std.proofs.Common.{◌≤◌, length, arith}
-use Rattle.expression.proofs.Trees.{past_outs}
-use Rattle.expression.proofs.expression.Expression.out_set.Goals as goal
-
-pub returns-else-place-lt-PLACES : goal.returns-else-place-lt-PLACES
-returns-else-place-lt-PLACES c =
-    let x = c.args.self.now in
-    let out : length x.places ≤ c.args.place = omega arith in
-    past_outs x.places x.lower_parts c.args.place out
