@@ -12,7 +12,7 @@ fn print_label<L: FiledLabel>(
     known: &Classified<L>,
 ) -> anyhow::Result<()> {
     let mut buffer = [0u8; TEXT_SIZE];
-    let len = known.label.write_text(&mut buffer).unwrap_or(0);
+    let len = known.label.write_text(&mut buffer).unwrap();
     let text = from_utf8(&buffer[..len])?;
     println!(rt; "label {line} {text} class {}", known.class)?;
     Ok(())

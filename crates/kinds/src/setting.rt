@@ -60,6 +60,16 @@ impl SettingLabel {
     }
 }
 
+impl TryFrom<Setting> for SettingLabel {
+    type Error = Refusal;
+
+    ghost try_from_gives = { λ setting made. made ≡ making setting };
+
+    fn try_from(setting: Setting) -> Result<SettingLabel, Refusal> {
+        SettingLabel::make(setting)
+    }
+}
+
 // Whether two floats have one bit pattern, where all that are no numbers have one.
 fn one_pattern(x: f32, y: f32) -> bool
     ensures { result ≡ (to_bits binary32 x == to_bits binary32 y) }

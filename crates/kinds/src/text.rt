@@ -54,6 +54,16 @@ impl TextLabel {
     }
 }
 
+impl<'a> TryFrom<&'a [u8]> for TextLabel {
+    type Error = Refusal;
+
+    ghost try_from_gives = { λ text made. made ≡ making text.now };
+
+    fn try_from(text: &'a [u8]) -> Result<TextLabel, Refusal> {
+        TextLabel::make(text)
+    }
+}
+
 impl Label for TextLabel {
     ghost Meaning = { List ℕ };
 
