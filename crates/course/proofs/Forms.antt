@@ -12,9 +12,9 @@ use Rattle.expression.specs.declared.term.Term.{Term}
 use Rattle.expression.specs.Forms.{Tree, t_node, t_edge, t_union, t_mark, t_out, t_zero, t_disjoint, t_append, t_graph, t_if, ins}
 use Rattle.course.specs.Course.{Run, done, full, onward, give, new_node, each, nodes_for}
 use Rattle.course.specs.Labels.{Compare}
-use Rattle.course.specs.Forward.{Maps, maps, only, empty, merged, origin_of, labelled, joint, tie, out, compared, eval}
-use Rattle.course.specs.View.{course_of, stack, size, cut, Within, Goes, Makes, Tells, Agrees, Evaluates}
-use Rattle.course.proofs.Maps.{only_within, empty_within, merged_within, wider}
+use Rattle.course.specs.Forward.{Maps, maps, only, empty, merged, origin_of, node_of, labelled, joint, tie, out, compared, eval}
+use Rattle.course.specs.View.{course_of, stack, size, cut, Within, Bound, Goes, Makes, Tells, Agrees, Evaluates}
+use Rattle.course.proofs.Maps.{only_within, empty_within, merged_within, wider, bound_up}
 
 -- the exit of a `?`
 pub exits : {run : Run Maps} {w v : Workspace} {x : Full} (r : Result (List ℕ) Full)
@@ -29,6 +29,9 @@ whole {cmp} {env} {f} {w} {v} {r} q e = subst (λ (z : Tree). Evaluates cmp z en
 -- later memory holds what was there
 pub still : {cmp : Compare} {x : Tree} {env : Environment} {f : ℕ} {w v : Workspace} {o : List ℕ} (ns : List ℕ) → Evaluates cmp x env f w v (Ok o) → Within (size w) ns → Within (size v) ns
 still {w} {v} ns e h = wider (size w) (size v) ns e.run.told.3 h
+
+pub still_bound : {cmp : Compare} {x : Tree} {env : Environment} {f : ℕ} {w v : Workspace} {o : List ℕ} (e : Environment) → Evaluates cmp x env f w v (Ok o) → Bound e (size w) → Bound e (size v)
+still_bound {w} {v} e ev h = bound_up (size w) (size v) e ev.run.told.3 h
 
 pub evaluated : {cmp : Compare} {x : Tree} {env : Environment} {f : ℕ} {w v : Workspace} {o : List ℕ} → Evaluates cmp x env f w v (Ok o) → Within (size v) o
 evaluated e = e.run.told.4
@@ -126,7 +129,7 @@ unfolding eval
 at_out q a = record { run = rw q a }
 
 -- Zero
-pub at_zero : {cmp : Compare} {x : Tree} {env : Environment} {f p : ℕ} {w : Workspace} → x ≡ t_zero p → Within (size w) env.nodes → Evaluates cmp x env f w w (Ok empty)
+pub at_zero : {cmp : Compare} {x : Tree} {env : Environment} {f p : ℕ} {w : Workspace} → x ≡ t_zero p → Bound env (size w) → Evaluates cmp x env f w w (Ok empty)
 unfolding eval
 at_zero {w} q h = record { run = rw q (record { told = ([], refl, sym (append-nil (stack w)), omega arith, empty_within (size w) (omega (arith, h 0))) }) }
 
@@ -216,7 +219,7 @@ at_append {f} {p} {w} {u} {v} {y} {z} {o} {i} b m ms q a c em hb hm t vz sz nz =
 
 -- Graph
 pub at_graph : {cmp : Compare} {x : Tree} {env : Environment} {f p j : ℕ} {w : Workspace} (o : List ℕ)
-    → x ≡ t_graph p j → o ≡ only 0 (get_or env.nodes j 0) → Within (size w) env.nodes → Evaluates cmp x env f w w (Ok o)
+    → x ≡ t_graph p j → o ≡ only 0 (node_of env j) → Bound env (size w) → Evaluates cmp x env f w w (Ok o)
 unfolding eval
 at_graph {env} {j} {w} o q e h =
     record {
@@ -226,7 +229,7 @@ at_graph {env} {j} {w} o q e h =
           ap (λ (z : List ℕ). done (maps z []) (course_of w)) (sym e),
           sym (append-nil (stack w)),
           omega arith,
-          subst (λ (z : List ℕ). Within (size w) z) (sym e) (only_within (size w) 0 (get_or env.nodes j 0) (h j)),
+          subst (λ (z : List ℕ). Within (size w) z) (sym e) (only_within (size w) 0 (node_of env j) (h j)),
         );
       });
     }

@@ -4,30 +4,47 @@ use Rattle.std.proofs.lemmas.List.{drop_more, drop_all, take_more, take_more_set
 use Rattle.std.specs.List.{remove}
 use Rattle.course.specs.declared.workspace.Workspace.{Workspace}
 use Rattle.course.specs.declared.course.Full.{Full}
+use Rattle.course.specs.declared.course.Origin.{Origin}
+use Rattle.course.specs.declared.environment.Binding.{Binding}
+use Rattle.course.specs.declared.environment.Environment.{Environment}
 use Rattle.course.specs.Course.{Course, Run, done, full, Step, onward, give, branch, nodes_for, each}
-use Rattle.course.specs.Forward.{only, empty, merged}
-use Rattle.course.specs.View.{Within, Goes, Makes}
+use Rattle.course.specs.Forward.{only, empty, merged, binding, unbound, deeper, outermost}
+use Rattle.course.specs.View.{Within, Bound, Goes, Makes}
 
-pub zeros_within : (n k : ℕ) → 0 < n → Within n (replicate k 0)
-zeros_within n zero h m = h
-zeros_within n (suc k) h zero = h
-zeros_within n (suc k) h (suc m) = zeros_within n k h m
+-- a fact of every element, also past the end
+pub every_replicate : {X : Type 0} (P : X → Type 0) (d : X) → P d → (n k : ℕ) → P (get_or (replicate n d) k d)
+every_replicate P d h zero k = h
+every_replicate P d h (suc n) zero = h
+every_replicate P d h (suc n) (suc k) = every_replicate P d h n k
+
+pub every_set : {X : Type 0} (P : X → Type 0) (d : X) (i : ℕ) (v : X) (xs : List X) → P v → ((k : ℕ) → P (get_or xs k d)) → (k : ℕ) → P (get_or (set xs i v) k d)
+every_set P d i v [] l w k = w k
+every_set P d zero v (x ∷ xs) l w zero = l
+every_set P d zero v (x ∷ xs) l w (suc k) = w (suc k)
+every_set P d (suc i) v (x ∷ xs) l w zero = w zero
+every_set P d (suc i) v (x ∷ xs) l w (suc k) = every_set P d i v xs l (λ j. w (suc j)) k
 
 pub empty_within : (n : ℕ) → 0 < n → Within n empty
-empty_within n h = zeros_within n 8 h
+empty_within n h = every_replicate (λ v. v < n) 0 h 8
 
 pub set_within : (n i v : ℕ) (into : List ℕ) → v < n → Within n into → Within n (set into i v)
-set_within n i v [] l w k = w k
-set_within n zero v (x ∷ into) l w zero = l
-set_within n zero v (x ∷ into) l w (suc k) = w (suc k)
-set_within n (suc i) v (x ∷ into) l w zero = w zero
-set_within n (suc i) v (x ∷ into) l w (suc k) = set_within n i v into l (λ j. w (suc j)) k
+set_within n i v into h w = every_set (λ x. x < n) 0 i v into h w
 
 pub only_within : (n m v : ℕ) → v < n → Within n (only m v)
 only_within n m v h = set_within n m v empty h (empty_within n (omega arith))
 
 pub wider : (n l : ℕ) (into : List ℕ) → n ≤ l → Within n into → Within l into
 wider n l into h w k = omega (arith, w k)
+
+-- the nodes of an environment
+pub bound_up : (n l : ℕ) (env : Environment) → n ≤ l → Bound env n → Bound env l
+bound_up n l env h b j = omega (arith, b j)
+
+pub bound_deeper : (n : ℕ) (env : Environment) (o : Origin) (v : ℕ) → v < n → Bound env n → Bound (deeper env o v) n
+bound_deeper n env o v h b = every_set (λ (x : Binding). x.node < n) unbound (env.level + 1) (binding o v) env.bindings h b
+
+pub bound_outermost : (n : ℕ) → 0 < n → Bound outermost n
+bound_outermost n h = every_replicate (λ (x : Binding). x.node < n) unbound h 5
 
 pub merged_within : (n : ℕ) (ms : List Bool) (a b : List ℕ) → 0 < n → Within n a → Within n b → Within n (merged ms a b)
 unfolding merged

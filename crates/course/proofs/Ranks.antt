@@ -3,7 +3,7 @@ use Rattle.std.proofs.Common.{◌≡◌, ℕ, ◌+◌, ◌<◌, ◌≤◌, Bool,
 use Rattle.std.specs.Int.{from_bool}
 use Rattle.std.proofs.lemmas.List.{take_more}
 use Rattle.walks.specs.Reach.{trues}
-use Rattle.course.proofs.Walks.{trues_within}
+use Rattle.walks.proofs.Marking.{trues_within}
 
 -- a flag as a number
 pub counted : (b : Bool) → from_bool b ≡ cond b 1 0

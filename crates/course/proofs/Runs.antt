@@ -10,15 +10,15 @@ use Rattle.course.specs.Labels.{Compare}
 use Rattle.course.specs.Sources.{Graph, graph_of}
 use Rattle.course.specs.Opening.{opening, no_course}
 use Rattle.course.specs.Forward.{Maps, outermost, eval, forward}
-use Rattle.course.specs.View.{course_of, size, Within, Evaluates, Ran}
-use Rattle.course.proofs.Maps.{zeros_within}
+use Rattle.course.specs.View.{course_of, size, Bound, Evaluates, Ran}
+use Rattle.course.proofs.Maps.{bound_outermost}
 use Rattle.course.proofs.Openings.{nodes_long}
 
 -- the root is there, and so is what the outermost environment has
-pub rooted : (w : Workspace) (s : Source) (env : Environment) → course_of w ≡ opening (graph_of s) → env ≡ outermost → Within (size w) env.nodes
+pub rooted : (w : Workspace) (s : Source) (env : Environment) → course_of w ≡ opening (graph_of s) → env ≡ outermost → Bound env (size w)
 rooted w s env e h =
     let n : size w ≡ s.nodes = w.nodes.ok.0 ∙ ap (λ (c : Course). length c.nodes) e ∙ nodes_long 0 s.nodes in
-    subst (λ (x : Environment). Within (size w) x.nodes) (sym h) (zeros_within (size w) 5 (omega (arith, n, s.some)))
+    subst (λ (x : Environment). Bound x (size w)) (sym h) (bound_outermost (size w) (omega (arith, n, s.some)))
 
 abbrev whole_node : Run Maps → Run ℕ
 whole_node run = onward run (λ m. give (get_or m.into 0 0))

@@ -9,7 +9,9 @@
 --   maps, out        such an answer from its two parts; an out from its node and its marker
 --   empty, only m v the in-map of no marker; of the marker m alone, with the node v
 --   merged ms a b    the in-map a at the markers of ms, and b at the others
+--   binding, unbound what a level's variables stand for, from its two parts; at a level that is not in use
 --   origin_of env t  where the label of the term t comes from
+--   node_of env j    the node of the graph variable of the level j
 --   deeper env o v   the environment one level deeper, where the label variable has the origin o and the graph variable
 --                    is the node v
 --   labelled         Edge: a node, with an arrow to the node t
@@ -38,6 +40,7 @@ use Rattle.course.specs.declared.course.Outcome.{Outcome}
 use Rattle.course.specs.declared.course.Outcome.TheVariants.{Same, Other}
 use Rattle.course.specs.declared.course.Origin.{Origin}
 use Rattle.course.specs.declared.course.Origin.TheVariants.{Blank, Constant}
+use Rattle.course.specs.declared.environment.Binding.{Binding}
 use Rattle.course.specs.declared.environment.Environment.{Environment}
 use Rattle.course.specs.declared.environment.Out.{Out}
 use Rattle.course.specs.Course.{is_blank_origin, Run, Step, onward, give, ◌>>=◌, ◌>>◌, branch, enter_node, enter_frame, enter_comparison, new_node, new_arrow, each, each_at, nodes_for}
@@ -66,16 +69,24 @@ merged (t ∷ ms) [] b = []
 merged (t ∷ ms) (x ∷ a) [] = []
 merged (t ∷ ms) (x ∷ a) (y ∷ b) = cond t x y ∷ merged ms a b
 
+abbrev pub binding : Origin → ℕ → Binding
+binding o v = record { origin = o; node = v }
+
+abbrev pub unbound : Binding
+unbound = binding Blank 0
+
 abbrev pub origin_of : Environment → Term → Origin
 origin_of env (Fixed c) = Constant c
-origin_of env (Variable j) = slice_index_or env.origins j Blank
+origin_of env (Variable j) = (slice_index_or env.bindings j unbound).origin
+
+abbrev pub node_of : Environment → ℕ → ℕ
+node_of env j = (slice_index_or env.bindings j unbound).node
 
 abbrev pub deeper : Environment → Origin → ℕ → Environment
 deeper env o v =
     record {
       level = env.level + 1;
-      origins = slice_set env.origins (env.level + 1) o;
-      nodes = slice_set env.nodes (env.level + 1) v;
+      bindings = slice_set env.bindings (env.level + 1) (binding o v);
     }
 
 unfoldable pub labelled : ℕ → ℕ → Origin → ℕ → Step ℕ
@@ -161,7 +172,7 @@ eval cmp (t_append p e g) env f =
     eval cmp g env f >>= λ b.
     each (tie p f (ins g) b.into) a.outs >>
     give (maps a.into b.outs)
-eval cmp (t_graph p j) env f = give (maps (only 0 (slice_index env.nodes j)) [])
+eval cmp (t_graph p j) env f = give (maps (only 0 (node_of env j)) [])
 eval cmp (t_if p s t e g) env f =
     compared p f (origin_of env s) (origin_of env t) (cmp (origin_of env s) (origin_of env t)) >>
     chosen (cmp (origin_of env s) (origin_of env t)) (eval cmp e env f) (eval cmp g env f)
@@ -171,7 +182,7 @@ eval cmp (t_recursion p b a) env f =
     give (maps into [])
 
 abbrev pub outermost : Environment
-outermost = record { level = 0; origins = replicate 5 Blank; nodes = replicate 5 0 }
+outermost = record { level = 0; bindings = replicate 5 unbound }
 
 unfoldable pub forward : Compare → Graph → Tree → Run ℕ
 forward cmp g e = onward (eval cmp e outermost 0 (opening g)) (λ m. give (slice_index m.into 0))

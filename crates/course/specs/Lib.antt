@@ -1,6 +1,7 @@
 pub mod Chains
 pub mod Course
 pub mod Ends
+pub mod Evaluators
 pub mod Forward
 pub mod Hubs
 pub mod Labels

@@ -8,6 +8,7 @@
 --   with_arrows n xs the course that has n source nodes and the source arrows xs alone
 --   cut xs i j      a list without what stands from i up to j
 --   Within n into   every node of an in-map is among the first n
+--   Bound env n     what the graph variables of env stand for is among the first n nodes
 --   Known l t       the term t is a constant, or a label variable of the level l or a lower one
 --
 -- Each of these says of a call, from the workspace w to the workspace v and with the answer r, that it does what the run
@@ -38,7 +39,7 @@ use Rattle.course.specs.declared.course.Sizes.{Sizes}
 use Rattle.course.specs.Course.{Course, Run, done, full}
 use Rattle.course.specs.Labels.{Compare}
 use Rattle.course.specs.Opening.{no_course, source_nodes, source_arrows}
-use Rattle.course.specs.Forward.{Maps, maps, eval}
+use Rattle.course.specs.Forward.{Maps, maps, node_of, eval}
 
 abbrev pub course_of : Workspace → Course
 course_of w =
@@ -72,6 +73,9 @@ cut xs i j = take i xs ++ drop j xs
 
 abbrev pub Within : ℕ → List ℕ → Type 0
 Within n into = (m : ℕ) → slice_index into m < n
+
+abbrev pub Bound : Environment → ℕ → Type 0
+Bound env n = (j : ℕ) → node_of env j < n
 
 abbrev pub Known : ℕ → Term → Type 0
 Known l (Constant c) = Unit {0}

@@ -2,9 +2,7 @@
 ghost use Rattle.std.specs.Prelude.{◌≡◌, ◌+◌, ◌<◌, ◌≤◌, true, vec_len};
 ghost use Rattle.expression.specs.Admitted.{tree_of};
 ghost use Rattle.expression.specs.Forms.{t_append, t_recursion};
-ghost use Rattle.expression.specs.Rules.{fits};
-ghost use Rattle.course.specs.Labels.{by_class};
-ghost use Rattle.course.specs.View.{Within, Evaluates};
+ghost use Rattle.course.specs.View.{Bound};
 
 use crate::classes::Classes;
 use crate::course::{Full, Outcome};
@@ -27,46 +25,96 @@ pub struct Evaluator<'a> {
 }
 
 impl<'a> Evaluator<'a> {
+    ghost use Rattle.course.specs.Evaluators.{Fitting, Answers};
+
     // The in-map of the rule's place, for each marker its node; the outs are put on the stack.
     #[cycle(evaluation)]
     pub(crate) fn evaluate(&self, rule: Rule, work: &mut Workspace) -> Result<[usize; 8], Full>
-        requires fitting { fits self.now.expression.now.constants self.now.env.level (tree_of self.now.expression.now rule.place) ≡ true }
-        requires bound { Within (vec_len work.old.nodes) self.now.env.nodes }
-        ensures { Evaluates (by_class self.now.classes.now) (tree_of self.now.expression.now rule.place) self.now.env rule.frame work.old work.new result }
+        requires fitting { Fitting self.now self.now.env.level rule.place }
+        requires bound { Bound self.now.env (vec_len work.old.nodes) }
+        ensures { Answers self.now (tree_of self.now.expression.now rule.place) rule.frame work.old work.new result }
     {
         match self.expression.form(rule.place) {
             Form::Zero => Ok([0; 8]),
             Form::Node => work.plain_node(rule),
-            Form::Edge(term, e) => {
-                let part = self.evaluate(Rule { place: e, ..rule }, work)?;
+            Form::Edge(term, inner) => {
+                let part = self.evaluate(
+                    Rule {
+                        place: inner,
+                        ..rule
+                    },
+                    work,
+                )?;
                 work.edge_node(rule, self.env.origin(term), part[0])
             }
-            Form::Union(e, f) => {
-                let left = self.evaluate(Rule { place: e, ..rule }, work)?;
-                let right = self.evaluate(Rule { place: f, ..rule }, work)?;
-                work.join(rule, self.expression.in_set(e), left, right)
+            Form::Union(first, second) => {
+                let left = self.evaluate(
+                    Rule {
+                        place: first,
+                        ..rule
+                    },
+                    work,
+                )?;
+                let right = self.evaluate(
+                    Rule {
+                        place: second,
+                        ..rule
+                    },
+                    work,
+                )?;
+                work.join(rule, self.expression.in_set(first), left, right)
             }
-            Form::Mark(marker, e) => {
-                let part = self.evaluate(Rule { place: e, ..rule }, work)?;
+            Form::Mark(marker, inner) => {
+                let part = self.evaluate(
+                    Rule {
+                        place: inner,
+                        ..rule
+                    },
+                    work,
+                )?;
                 Ok(only(marker, part[0]))
             }
             Form::Out(marker) => work.open_node(rule, marker),
-            Form::Disjoint(e, f) => {
-                let left = self.evaluate(Rule { place: e, ..rule }, work)?;
-                let right = self.evaluate(Rule { place: f, ..rule }, work)?;
-                Ok(merge(self.expression.in_set(e), left, right))
+            Form::Disjoint(first, second) => {
+                let left = self.evaluate(
+                    Rule {
+                        place: first,
+                        ..rule
+                    },
+                    work,
+                )?;
+                let right = self.evaluate(
+                    Rule {
+                        place: second,
+                        ..rule
+                    },
+                    work,
+                )?;
+                Ok(merge(self.expression.in_set(first), left, right))
             }
-            Form::Append(e, f) => self.append(rule, e, f, work),
-            Form::Graph(level) => Ok(only(0, self.env.nodes[level])),
-            Form::If(s, t, e, f) => {
-                let left = self.env.origin(s);
-                let right = self.env.origin(t);
+            Form::Append(first, second) => self.append(rule, first, second, work),
+            Form::Graph(level) => Ok(only(0, self.env.node(level))),
+            Form::If(one, another, same, other) => {
+                let left = self.env.origin(one);
+                let right = self.env.origin(another);
                 match work.compare(rule, self.classes, left, right)? {
-                    Outcome::Same => self.evaluate(Rule { place: e, ..rule }, work),
-                    Outcome::Other => self.evaluate(Rule { place: f, ..rule }, work),
+                    Outcome::Same => self.evaluate(
+                        Rule {
+                            place: same,
+                            ..rule
+                        },
+                        work,
+                    ),
+                    Outcome::Other => self.evaluate(
+                        Rule {
+                            place: other,
+                            ..rule
+                        },
+                        work,
+                    ),
                 }
             }
-            Form::Recursion(b, a) => self.recur(rule, b, a, work),
+            Form::Recursion(body, argument) => self.recur(rule, body, argument, work),
         }
     }
 
@@ -75,21 +123,33 @@ impl<'a> Evaluator<'a> {
     fn append(
         &self,
         rule: Rule,
-        e: usize,
-        f: usize,
+        first: usize,
+        second: usize,
         work: &mut Workspace,
     ) -> Result<[usize; 8], Full>
-        requires low { (e < rule.place) × (f < rule.place) }
-        requires first { fits self.now.expression.now.constants self.now.env.level (tree_of self.now.expression.now e) ≡ true }
-        requires second { fits self.now.expression.now.constants self.now.env.level (tree_of self.now.expression.now f) ≡ true }
-        requires bound { Within (vec_len work.old.nodes) self.now.env.nodes }
-        ensures { Evaluates (by_class self.now.classes.now) (t_append rule.place (tree_of self.now.expression.now e) (tree_of self.now.expression.now f)) self.now.env rule.frame work.old work.new result }
+        requires low { (first < rule.place) × (second < rule.place) }
+        requires first_fits { Fitting self.now self.now.env.level first }
+        requires second_fits { Fitting self.now self.now.env.level second }
+        requires bound { Bound self.now.env (vec_len work.old.nodes) }
+        ensures { Answers self.now (t_append rule.place (tree_of self.now.expression.now first) (tree_of self.now.expression.now second)) rule.frame work.old work.new result }
     {
         let base = work.outs.len();
-        let above = self.evaluate(Rule { place: e, ..rule }, work)?;
+        let above = self.evaluate(
+            Rule {
+                place: first,
+                ..rule
+            },
+            work,
+        )?;
         let mid = work.outs.len();
-        let below = self.evaluate(Rule { place: f, ..rule }, work)?;
-        work.tie_outs(rule, base, mid, self.expression.in_set(f), below)?;
+        let below = self.evaluate(
+            Rule {
+                place: second,
+                ..rule
+            },
+            work,
+        )?;
+        work.tie_outs(rule, base, mid, self.expression.in_set(second), below)?;
         work.cut_outs(base, mid);
         Ok(above)
     }
@@ -106,10 +166,10 @@ impl<'a> Evaluator<'a> {
     ) -> Result<[usize; 8], Full>
         requires low { (body < rule.place) × (argument < rule.place) }
         requires level { self.now.env.level < 4 }
-        requires fitting { fits self.now.expression.now.constants (self.now.env.level + 1) (tree_of self.now.expression.now body) ≡ true }
-        requires argued { fits self.now.expression.now.constants self.now.env.level (tree_of self.now.expression.now argument) ≡ true }
-        requires bound { Within (vec_len work.old.nodes) self.now.env.nodes }
-        ensures { Evaluates (by_class self.now.classes.now) (t_recursion rule.place (tree_of self.now.expression.now body) (tree_of self.now.expression.now argument)) self.now.env rule.frame work.old work.new result }
+        requires fitting { Fitting self.now (self.now.env.level + 1) body }
+        requires argued { Fitting self.now self.now.env.level argument }
+        requires bound { Bound self.now.env (vec_len work.old.nodes) }
+        ensures { Answers self.now (t_recursion rule.place (tree_of self.now.expression.now body) (tree_of self.now.expression.now argument)) rule.frame work.old work.new result }
     {
         let before = work.extent();
         let part = self.evaluate(

@@ -7,7 +7,8 @@ use crate::rule::Rule;
 // The hubs of the marked nodes for the markers of a set, numbered from `first` on: for each node
 // its rank among the marked ones, for each marker its rank in the set. They are made by the rule of
 // the recursion.
-// Kept as arrays side by side: a walk fills the marks, and the set is compared as one array.
+// Kept as arrays side by side: a walk fills the marks, and links go over the set, each as one array
+// of flags.
 #[derive(Drop)]
 pub struct Hubs {
     pub(crate) rule: Rule,
@@ -30,7 +31,7 @@ impl Hubs {
     ghost use Rattle.course.specs.Recursions.{members, hubs_at};
 
     // The number of a hub.
-    fn hub(&self, node: usize, marker: usize) -> usize
+    pub(crate) fn hub(&self, node: usize, marker: usize) -> usize
         requires { (node < self.now.first) × (marker < 8) }
         ensures { result ≡ hub_of (members self.now) self.now.set self.now.first node marker }
     {

@@ -2,7 +2,7 @@
 ghost use Rattle.std.specs.Prelude.{◌≡◌, ◌<◌, vec_len};
 ghost use Rattle.course.specs.Course.{each_at};
 ghost use Rattle.course.specs.Forward.{hub_step, hubs_step, link_at};
-ghost use Rattle.course.specs.Recursions.{members};
+ghost use Rattle.course.specs.Recursions.{members, hubs_at};
 ghost use Rattle.course.specs.View.{course_of, Within, Goes};
 
 use crate::course::{Full, Origin};
@@ -50,6 +50,25 @@ impl Workspace {
         for (marker, &on) in set.iter().enumerate() {
             if on {
                 self.add_arrow(rule, tails[marker], heads[marker], Origin::Blank)?;
+            }
+        }
+        Ok(())
+    }
+
+    // Blank arrows from the hubs of one node to those of another.
+    // Kept beside link_all: two in-maps for each blank arrow double the time of a run over many.
+    pub(crate) fn link_hubs(&mut self, hubs: &Hubs, tail: usize, head: usize) -> Result<(), Full>
+        requires tail { tail < hubs.now.first }
+        requires head { head < hubs.now.first }
+        requires tails { Within (vec_len self.old.nodes) (hubs_at hubs.now tail) }
+        requires heads { Within (vec_len self.old.nodes) (hubs_at hubs.now head) }
+        ensures { Goes (each_at (link_at hubs.now.rule.place hubs.now.rule.frame (hubs_at hubs.now tail) (hubs_at hubs.now head)) 0 hubs.now.set (course_of self.old)) self.old self.new result }
+    {
+        for (marker, &on) in hubs.set.iter().enumerate() {
+            if on {
+                let from = hubs.hub(tail, marker);
+                let to = hubs.hub(head, marker);
+                self.add_arrow(hubs.rule, from, to, Origin::Blank)?;
             }
         }
         Ok(())

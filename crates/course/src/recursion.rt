@@ -1,10 +1,10 @@
 // What a recursion does once its hubs are made: arrow by arrow, links from hub to hub or its body.
 ghost use Rattle.std.specs.Prelude.{◌≡◌, ℕ, ◌+◌, ◌<◌, ◌≤◌, true, false, take, vec_len, slice_index_or};
 ghost use Rattle.expression.specs.Admitted.{tree_of};
-ghost use Rattle.expression.specs.Rules.{fits};
+ghost use Rattle.course.specs.Evaluators.{Fitting};
 ghost use Rattle.course.specs.Labels.{by_class};
 ghost use Rattle.course.specs.Reach.{lost};
-ghost use Rattle.course.specs.View.{Within};
+ghost use Rattle.course.specs.View.{Bound};
 
 use crate::course::{Arrow, Full};
 use crate::evaluate::Evaluator;
@@ -19,7 +19,7 @@ pub struct Recursion<'a, 'b> {
     pub(crate) body: usize,
     pub(crate) hubs: &'b Hubs,
     ghost level: { around.now.env.level < 4 },
-    ghost fitting: { fits around.now.expression.now.constants (around.now.env.level + 1) (tree_of around.now.expression.now body) ≡ true },
+    ghost fitting: { Fitting around.now (around.now.env.level + 1) body },
 }
 
 impl<'a, 'b> Recursion<'a, 'b> {
@@ -28,11 +28,11 @@ impl<'a, 'b> Recursion<'a, 'b> {
     // What each of the first arrows does.
     #[cycle(evaluation)]
     pub(crate) fn take_arrows(&self, count: usize, work: &mut Workspace) -> Result<(), Full>
-        requires bound { Within (vec_len work.old.nodes) self.now.around.now.env.nodes }
+        requires bound { Bound self.now.around.now.env (vec_len work.old.nodes) }
         requires stands { Stands self.now.hubs.now (vec_len work.old.nodes) }
         requires known { count ≤ vec_len work.old.arrows }
         requires crosses { (k : ℕ) → k < count → Crosses self.now.hubs.now (slice_index_or work.old.arrows.items k lost) }
-        ensures { Takes (by_class self.now.around.now.classes.now) (tree_of self.now.around.now.expression.now self.now.body) self.now.around.now.env self.now.hubs.now (take count work.old.arrows.items) work.old work.new result }
+        ensures { let around = self.now.around.now in Takes (by_class around.classes.now) (tree_of around.expression.now self.now.body) around.env self.now.hubs.now (take count work.old.arrows.items) work.old work.new result }
     {
         // Kept as a loop over numbers: the body enters arrows while the first ones are gone through.
         for k in 0..count {
@@ -46,19 +46,17 @@ impl<'a, 'b> Recursion<'a, 'b> {
     // it is blank, and else a run of the body.
     #[cycle(evaluation)]
     fn take_arrow(&self, k: usize, arrow: Arrow, work: &mut Workspace) -> Result<(), Full>
-        requires bound { Within (vec_len work.old.nodes) self.now.around.now.env.nodes }
+        requires bound { Bound self.now.around.now.env (vec_len work.old.nodes) }
         requires stands { Stands self.now.hubs.now (vec_len work.old.nodes) }
         requires crosses { Crosses self.now.hubs.now arrow }
-        ensures { Turns (by_class self.now.around.now.classes.now) (tree_of self.now.around.now.expression.now self.now.body) self.now.around.now.env self.now.hubs.now k arrow work.old work.new result }
+        ensures { let around = self.now.around.now in Turns (by_class around.classes.now) (tree_of around.expression.now self.now.body) around.env self.now.hubs.now k arrow work.old work.new result }
     {
         let hubs = self.hubs;
         if !hubs.marks[arrow.tail] {
             return Ok(());
         }
         if arrow.origin.is_blank() {
-            let tails = hubs.in_map(arrow.tail);
-            let heads = hubs.in_map(arrow.head);
-            work.link_all(hubs.rule, hubs.set, tails, heads)
+            work.link_hubs(hubs, arrow.tail, arrow.head)
         } else {
             self.run_body(k, arrow, work)
         }
@@ -67,11 +65,11 @@ impl<'a, 'b> Recursion<'a, 'b> {
     // The body in a new frame, one level deeper, tied to the hubs of the arrow's ends.
     #[cycle(evaluation)]
     fn run_body(&self, k: usize, arrow: Arrow, work: &mut Workspace) -> Result<(), Full>
-        requires bound { Within (vec_len work.old.nodes) self.now.around.now.env.nodes }
+        requires bound { Bound self.now.around.now.env (vec_len work.old.nodes) }
         requires stands { Stands self.now.hubs.now (vec_len work.old.nodes) }
         requires crosses { Crosses self.now.hubs.now arrow }
         requires reached { slice_index_or (members self.now.hubs.now) arrow.tail false ≡ true }
-        ensures { Bodies (by_class self.now.around.now.classes.now) (tree_of self.now.around.now.expression.now self.now.body) self.now.around.now.env self.now.hubs.now k arrow work.old work.new result }
+        ensures { let around = self.now.around.now in Bodies (by_class around.classes.now) (tree_of around.expression.now self.now.body) around.env self.now.hubs.now k arrow work.old work.new result }
     {
         let hubs = self.hubs;
         let base = work.outs.len();

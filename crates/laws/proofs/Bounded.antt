@@ -11,7 +11,8 @@ use Rattle.course.specs.Ends.{joins, inside}
 use Rattle.course.specs.Labels.{Compare}
 use Rattle.course.specs.Sources.{Graph}
 use Rattle.course.specs.Opening.{source_nodes, source_arrows, opening}
-use Rattle.course.specs.Forward.{outermost, forward}
+use Rattle.course.specs.declared.environment.Binding.{Binding}
+use Rattle.course.specs.Forward.{unbound, outermost, forward}
 use Rattle.laws.specs.Every.{Every, EveryFrom}
 use Rattle.laws.specs.Bounds.{Labelled, NodeIn, ArrowIn, CourseIn, Sound, Bounded, Bounds}
 use Rattle.laws.proofs.Everies.{every_replicate}
@@ -63,7 +64,7 @@ outermost_in s n c w =
       level = omega arith;
       size = refl;
       origins = λ j h i. absurd (omega arith);
-      nodes = every_replicate (λ v. v < length c.nodes) 5 0 w.a_node;
+      nodes = every_replicate (λ (b : Binding). b.node < length c.nodes) 5 unbound w.a_node;
     }
 
 -- the rules on levels are among the rules

@@ -17,6 +17,7 @@ use Rattle.course.specs.declared.course.Origin.{Origin}
 use Rattle.course.specs.declared.course.Origin.TheVariants.{Blank, Source, Constant}
 use Rattle.course.specs.declared.course.Outcome.{Outcome}
 use Rattle.course.specs.declared.course.Outcome.TheVariants.{Same, Other}
+use Rattle.course.specs.declared.environment.Binding.{Binding}
 use Rattle.course.specs.declared.environment.Environment.{Environment}
 use Rattle.course.specs.declared.environment.Out.{Out}
 use Rattle.course.specs.Course.{is_blank_origin, Course, Run, done, full, Step, onward, give, ◌>>◌, branch, enter_node, enter_arrow, enter_frame, enter_comparison, new_node, new_arrow, link, each, each_at, nodes_for}
@@ -24,7 +25,7 @@ use Rattle.course.specs.Labels.{Compare}
 use Rattle.course.specs.Hubs.{hub, hubs}
 use Rattle.walks.specs.Reach.{In, stay}
 use Rattle.course.specs.Reach.{lost, reached}
-use Rattle.course.specs.Forward.{Maps, only, origin_of, deeper, labelled, joint, tie, compared, chosen, hubs_step, link_at, run_body, turn, recur, eval}
+use Rattle.course.specs.Forward.{Maps, only, binding, unbound, origin_of, deeper, labelled, joint, tie, compared, chosen, hubs_step, link_at, run_body, turn, recur, eval}
 use Rattle.laws.specs.Every.{Every, EveryFrom}
 use Rattle.laws.specs.Bounds.{Known, Labelled, NodeIn, ArrowIn, InnerFrame, FrameIn, ComparisonIn, CourseIn}
 use Rattle.laws.specs.Recursion.{members, hub_of, hub_node, enter_hubs}
@@ -247,16 +248,22 @@ module _ (s n : ℕ) where
   -- what the variables stand for is there
   pub record EnvIn (c : Course) (env : Environment) : Type 0 where
     pub level : env.level ≤ 4
-    pub size : length env.origins ≡ 5
-    pub origins : (j : ℕ) → 1 ≤ j → j ≤ env.level → Labelled s n (get_or env.origins j Blank)
-    pub nodes : Nodes env.nodes c
+    pub size : length env.bindings ≡ 5
+    pub origins : (j : ℕ) → 1 ≤ j → j ≤ env.level → Labelled s n (get_or env.bindings j unbound).origin
+    pub nodes : Every (λ (b : Binding). b.node < length c.nodes) env.bindings
 
   pub record MapsIn (m : Maps) (c : Course) : Type 0 where
     pub into : Nodes m.into c
     pub outs : Every (λ (o : Out). o.node < length c.nodes) m.outs
 
   env_up : (c d : Course) (env : Environment) → Grows c d → EnvIn c env → EnvIn d env
-  env_up c d env g h = record { level = h.level; size = h.size; origins = h.origins; nodes = below_up c d g env.nodes h.nodes }
+  env_up c d env g h =
+      record {
+        level = h.level;
+        size = h.size;
+        origins = h.origins;
+        nodes = every_to (λ (b : Binding). b.node < length c.nodes) (λ (b : Binding). b.node < length d.nodes) (λ b q. omega (arith, g.nodes)) env.bindings h.nodes;
+      }
 
   maps_up : (c d : Course) (m : Maps) → Grows c d → MapsIn m c → MapsIn m d
   maps_up c d m g h =
@@ -276,16 +283,16 @@ module _ (s n : ℕ) where
   deeper_in c env o v h l q b =
       record {
         level = omega arith;
-        size = length-set env.origins (env.level + 1) o ∙ h.size;
+        size = length-set env.bindings (env.level + 1) (binding o v) ∙ h.size;
         origins = λ j i k. on j i k (cases_eq j (env.level + 1));
-        nodes = every_set (λ x. x < length c.nodes) env.nodes (env.level + 1) v h.nodes b;
+        nodes = every_set (λ (x : Binding). x.node < length c.nodes) env.bindings (env.level + 1) (binding o v) h.nodes b;
       }
     where
-      on : (j : ℕ) → 1 ≤ j → j ≤ env.level + 1 → (j ≡ env.level + 1) ⊎ (j ≡ env.level + 1 → ⊥) → Labelled s n (get_or (set env.origins (env.level + 1) o) j Blank)
+      on : (j : ℕ) → 1 ≤ j → j ≤ env.level + 1 → (j ≡ env.level + 1) ⊎ (j ≡ env.level + 1 → ⊥) → Labelled s n (get_or (set env.bindings (env.level + 1) (binding o v)) j unbound).origin
       on j i k (inl e) =
-          subst (λ x. Labelled s n (get_or (set env.origins (env.level + 1) o) x Blank)) (sym e)
-          (subst (Labelled s n) (sym (get_or-set_same env.origins (env.level + 1) o Blank (omega (arith, h.size)))) q)
-      on j i k (inr e) = subst (Labelled s n) (sym (get_or-set_other env.origins (env.level + 1) j o Blank e)) (h.origins j i (omega (arith, e)))
+          subst (λ x. Labelled s n (get_or (set env.bindings (env.level + 1) (binding o v)) x unbound).origin) (sym e)
+          (subst (λ (x : Binding). Labelled s n x.origin) (sym (get_or-set_same env.bindings (env.level + 1) (binding o v) unbound (omega (arith, h.size)))) q)
+      on j i k (inr e) = subst (λ (x : Binding). Labelled s n x.origin) (sym (get_or-set_other env.bindings (env.level + 1) j (binding o v) unbound e)) (h.origins j i (omega (arith, e)))
 
   term_label : (c : Course) (env : Environment) → EnvIn c env → (t : Term) → term_fits n env.level t ≡ true → Labelled s n (origin_of env t)
   term_label c env h (Fixed k) q = ltb-true k n q
@@ -508,7 +515,7 @@ module _ (s n : ℕ) where
         ends_onward d₂ Any MapsIn _ _ _ _ (ends_ties p f (ins g) a'.into a.outs d₂ w₂ (omega (arith, g₁.frames, g₂.frames)) q₂.into q₁₂.outs) λ y d₃ w₃ g₃ q₃.
         ends_give d₃ MapsIn _ w₃ (record { into = (maps_up d₂ d₃ a g₃ q₁₂).into; outs = (maps_up d₂ d₃ a' g₃ q₂).outs })
     ends_eval (t_graph p j) env f c q w v l =
-        ends_give c MapsIn _ w (record { into = only_in 0 _ c w (node_for env.nodes j c w v.nodes); outs = tt })
+        ends_give c MapsIn _ w (record { into = only_in 0 _ c w (every_get (λ (b : Binding). b.node < length c.nodes) env.bindings unbound j v.nodes w.a_node); outs = tt })
     ends_eval (t_if p t t' e g) env f c q w v l =
         let b = and_parts (term_fits n env.level t && term_fits n env.level t') (fits n env.level e && fits n env.level g) q in
         let bt = and_parts (term_fits n env.level t) (term_fits n env.level t') b.0 in

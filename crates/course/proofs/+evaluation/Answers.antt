@@ -3,16 +3,16 @@ use Rattle.std.proofs.lemmas.List.{get_or_read, get_or-take, length-take-le}
 use Rattle.expression.specs.Admitted.{tree_of}
 use Rattle.expression.specs.Rules.{fits}
 use Rattle.course.specs.declared.environment.Environment.{Environment}
-use Rattle.course.specs.Labels.{by_class}
+use Rattle.course.specs.Forward.{only}
 use Rattle.course.specs.Reach.{lost}
-use Rattle.course.specs.Recursions.{members, Stands, Crosses}
-use Rattle.course.specs.View.{course_of, size, Within}
-use Rattle.course.proofs.Maps.{wider, set_within}
+use Rattle.course.specs.Recursions.{members, hubs_at, Stands, Crosses}
+use Rattle.course.specs.View.{course_of, size, Bound}
+use Rattle.course.proofs.Maps.{bound_up, bound_deeper}
 use Rattle.course.proofs.Loops.{going_on, going_stops, going_ends}
 use Rattle.course.proofs.HubsIn.{hubs_add}
 use Rattle.course.proofs.Walks.{reached_root}
 use Rattle.course.proofs.Fits.{fits_edge, fits_union, fits_disjoint, fits_append, fits_mark, fits_out, fits_graph, fits_if, fits_recursion}
-use Rattle.course.proofs.Forms.{still, evaluated, grows, whole, at_node, at_edge_exit, at_edge, at_union_left, at_union_right, at_union, at_mark_exit, at_mark, at_out, at_zero, at_disjoint_left, at_disjoint_right, at_disjoint, at_append_left, at_append_right, at_append_tie, at_append, at_graph, at_if_exit, at_if_same, at_if_other}
+use Rattle.course.proofs.Forms.{still_bound, evaluated, grows, whole, at_node, at_edge_exit, at_edge, at_union_left, at_union_right, at_union, at_mark_exit, at_mark, at_out, at_zero, at_disjoint_left, at_disjoint_right, at_disjoint, at_append_left, at_append_right, at_append_tie, at_append, at_graph, at_if_exit, at_if_same, at_if_other}
 use Rattle.course.proofs.Recurs.{body_frame, body_eval, body_link, body_tie, body_done, turn_past, turn_blank, turn_body, begins_kept, same_front, turn_kept, hubs_kept, crossing, hubs_there, taken_at, at_recursion_exit, at_recursion_hubs, at_recursion_turns, at_recursion}
 use Rattle.course.proofs.+evaluation.Goals as goal
 
@@ -30,10 +30,10 @@ evaluate::Evaluator::evaluate-evaluate-requires t c =
 pub evaluate::Evaluator::evaluate-returns-in_err-part-in-Edge : goal.evaluate::Evaluator::evaluate-returns-in_err-part-in-Edge
 evaluate::Evaluator::evaluate-returns-in_err-part-in-Edge t c = at_edge_exit c.from_residual.result c.in-Edge.ensures.tree c.in_err-part-in-Edge.ensures c.from_residual.ensures.1
 
-pub evaluate::Evaluator::evaluate-origin-requires : goal.evaluate::Evaluator::evaluate-origin-requires
-evaluate::Evaluator::evaluate-origin-requires t c =
+pub evaluate::Evaluator::evaluate-origin-requires-clause-known : goal.evaluate::Evaluator::evaluate-origin-requires-clause-known
+evaluate::Evaluator::evaluate-origin-requires-clause-known t c =
     let k = fits_edge c.args.self.now.expression.now.constants c.args.self.now.env.level c.in-Edge.ensures.tree c.requires.fitting in
-    (k.0, c.args.self.now.level)
+    k.0
 
 pub evaluate::Evaluator::evaluate-returns-in_ok-part-in-Edge : goal.evaluate::Evaluator::evaluate-returns-in_ok-part-in-Edge
 evaluate::Evaluator::evaluate-returns-in_ok-part-in-Edge t c =
@@ -53,7 +53,7 @@ pub evaluate::Evaluator::evaluate-evaluate-requires-in-Union-2 : goal.evaluate::
 evaluate::Evaluator::evaluate-evaluate-requires-in-Union-2 t c =
     let low = c.in-Union.ensures.low.1 in
     let k = fits_union c.args.self.now.expression.now.constants c.args.self.now.env.level c.in-Union.ensures.tree c.requires.fitting in
-    (omega (arith, low), (k.1, still c.args.self.now.env.nodes c.in_ok-left-in-Union.ensures c.requires.bound))
+    (omega (arith, low), (k.1, still_bound c.args.self.now.env c.in_ok-left-in-Union.ensures c.requires.bound))
 
 pub evaluate::Evaluator::evaluate-returns-in_err-right-in-Union : goal.evaluate::Evaluator::evaluate-returns-in_err-right-in-Union
 evaluate::Evaluator::evaluate-returns-in_err-right-in-Union t c =
@@ -98,7 +98,7 @@ pub evaluate::Evaluator::evaluate-evaluate-requires-in-Disjoint-2 : goal.evaluat
 evaluate::Evaluator::evaluate-evaluate-requires-in-Disjoint-2 t c =
     let low = c.in-Disjoint.ensures.low.1 in
     let k = fits_disjoint c.args.self.now.expression.now.constants c.args.self.now.env.level c.in-Disjoint.ensures.tree c.requires.fitting in
-    (omega (arith, low), (k.1, still c.args.self.now.env.nodes c.in_ok-left-in-Disjoint.ensures c.requires.bound))
+    (omega (arith, low), (k.1, still_bound c.args.self.now.env c.in_ok-left-in-Disjoint.ensures c.requires.bound))
 
 pub evaluate::Evaluator::evaluate-returns-in_err-right-in-Disjoint : goal.evaluate::Evaluator::evaluate-returns-in_err-right-in-Disjoint
 evaluate::Evaluator::evaluate-returns-in_err-right-in-Disjoint t c =
@@ -109,15 +109,18 @@ evaluate::Evaluator::evaluate-returns-in_ok-right-in-Disjoint t c =
     at_disjoint c.in_set-in-Disjoint.result c.merge.result c.in-Disjoint.ensures.tree c.in_ok-left-in-Disjoint.ensures c.in_ok-right-in-Disjoint.ensures c.in_set-in-Disjoint.ensures c.merge.ensures
 
 -- Graph
+pub evaluate::Evaluator::evaluate-node-requires-clause-known : goal.evaluate::Evaluator::evaluate-node-requires-clause-known
+evaluate::Evaluator::evaluate-node-requires-clause-known t c = fits_graph c.args.self.now.expression.now.constants c.args.self.now.env.level c.in-Graph.ensures.tree c.requires.fitting
+
 pub evaluate::Evaluator::evaluate-returns-in-Graph : goal.evaluate::Evaluator::evaluate-returns-in-Graph
-evaluate::Evaluator::evaluate-returns-in-Graph t c = at_graph c.only-in-Graph.result c.in-Graph.ensures.tree c.only-in-Graph.ensures c.requires.bound
+evaluate::Evaluator::evaluate-returns-in-Graph t c = at_graph c.only-in-Graph.result c.in-Graph.ensures.tree (c.only-in-Graph.ensures ∙ ap (only 0) c.node.ensures) c.requires.bound
 
 -- If
-pub evaluate::Evaluator::evaluate-origin-left-requires : goal.evaluate::Evaluator::evaluate-origin-left-requires
-evaluate::Evaluator::evaluate-origin-left-requires t c = ((fits_if c.args.self.now.expression.now.constants c.args.self.now.env.level c.in-If.ensures.tree c.requires.fitting).0, c.args.self.now.level)
+pub evaluate::Evaluator::evaluate-origin-left-requires-clause-known : goal.evaluate::Evaluator::evaluate-origin-left-requires-clause-known
+evaluate::Evaluator::evaluate-origin-left-requires-clause-known t c = (fits_if c.args.self.now.expression.now.constants c.args.self.now.env.level c.in-If.ensures.tree c.requires.fitting).0
 
-pub evaluate::Evaluator::evaluate-origin-right-requires : goal.evaluate::Evaluator::evaluate-origin-right-requires
-evaluate::Evaluator::evaluate-origin-right-requires t c = ((fits_if c.args.self.now.expression.now.constants c.args.self.now.env.level c.in-If.ensures.tree c.requires.fitting).1, c.args.self.now.level)
+pub evaluate::Evaluator::evaluate-origin-right-requires-clause-known : goal.evaluate::Evaluator::evaluate-origin-right-requires-clause-known
+evaluate::Evaluator::evaluate-origin-right-requires-clause-known t c = (fits_if c.args.self.now.expression.now.constants c.args.self.now.env.level c.in-If.ensures.tree c.requires.fitting).1
 
 pub evaluate::Evaluator::evaluate-returns-in_err-compare-in-If : goal.evaluate::Evaluator::evaluate-returns-in_err-compare-in-If
 evaluate::Evaluator::evaluate-returns-in_err-compare-in-If t c =
@@ -127,13 +130,13 @@ pub evaluate::Evaluator::evaluate-evaluate-requires-in-Same : goal.evaluate::Eva
 evaluate::Evaluator::evaluate-evaluate-requires-in-Same t c =
     let low = c.in-If.ensures.low.0 in
     let k = fits_if c.args.self.now.expression.now.constants c.args.self.now.env.level c.in-If.ensures.tree c.requires.fitting in
-    (omega (arith, low), (k.2, wider (size c.args.work.now) (size c.compare.new.self) c.args.self.now.env.nodes c.in_ok-compare-in-If.ensures.told.3 c.requires.bound))
+    (omega (arith, low), (k.2, bound_up (size c.args.work.now) (size c.compare.new.self) c.args.self.now.env c.in_ok-compare-in-If.ensures.told.3 c.requires.bound))
 
 pub evaluate::Evaluator::evaluate-evaluate-requires-in-Other : goal.evaluate::Evaluator::evaluate-evaluate-requires-in-Other
 evaluate::Evaluator::evaluate-evaluate-requires-in-Other t c =
     let low = c.in-If.ensures.low.1 in
     let k = fits_if c.args.self.now.expression.now.constants c.args.self.now.env.level c.in-If.ensures.tree c.requires.fitting in
-    (omega (arith, low), (k.3, wider (size c.args.work.now) (size c.compare.new.self) c.args.self.now.env.nodes c.in_ok-compare-in-If.ensures.told.3 c.requires.bound))
+    (omega (arith, low), (k.3, bound_up (size c.args.work.now) (size c.compare.new.self) c.args.self.now.env c.in_ok-compare-in-If.ensures.told.3 c.requires.bound))
 
 pub evaluate::Evaluator::evaluate-returns-in-Same : goal.evaluate::Evaluator::evaluate-returns-in-Same
 evaluate::Evaluator::evaluate-returns-in-Same t c =
@@ -203,7 +206,7 @@ evaluate::Evaluator::recur-take_arrows-requires t c =
     let kept = begins_kept (vec_items v.arrows) (vec_items y.arrows) c.extent-after.result.arrows (hubs_kept h made) (omega (arith, c.extent-after.ensures.arrows, v.arrows.ok.0)) in (
       omega (arith, c.requires.low.0),
       (
-        wider (size w) (size y) c.args.self.now.env.nodes (omega (arith, c.in_ok-part.ensures.run.told.3, c.drop_outs.ensures.sizes, made.told.2)) c.requires.bound,
+        bound_up (size w) (size y) c.args.self.now.env (omega (arith, c.in_ok-part.ensures.run.told.3, c.drop_outs.ensures.sizes, made.told.2)) c.requires.bound,
         (
           omega (arith, n.first, more, v.nodes.ok.0, y.nodes.ok.0),
           (
@@ -253,7 +256,7 @@ recursion::Recursion::take_arrows-take_arrow-requires t c =
     let s = same_front (vec_items v.arrows) (vec_items w.arrows) c.args.count k lost lt i.same in (
       omega arith,
       (
-        wider (size w) (size v) c.args.self.now.around.now.env.nodes i.going.grows c.requires.bound,
+        bound_up (size w) (size v) c.args.self.now.around.now.env i.going.grows c.requires.bound,
         (
           omega (arith, c.requires.stands, i.going.grows),
           subst (λ a. Crosses c.args.self.now.hubs.now a) (sym (e ∙ s)) (c.requires.crosses k lt),
@@ -303,19 +306,19 @@ recursion::Recursion::take_arrow-returns-then-not-hubs-arrow t c =
     let a = c.args.arrow in
     turn_past h c.args.k a (get_or-take h.first h.marks a.tail false c.requires.crosses.tail ∙ c.if-not-hubs-arrow.true)
 
-pub recursion::Recursion::take_arrow-link_all-requires-clause-tails : goal.recursion::Recursion::take_arrow-link_all-requires-clause-tails
-recursion::Recursion::take_arrow-link_all-requires-clause-tails t c =
+pub recursion::Recursion::take_arrow-link_hubs-requires-clause-tails : goal.recursion::Recursion::take_arrow-link_hubs-requires-clause-tails
+recursion::Recursion::take_arrow-link_hubs-requires-clause-tails t c =
     let h = c.args.self.now.hubs.now in
     let a = c.args.arrow in
     let on : get_or (members h) a.tail false ≡ true = get_or-take h.first h.marks a.tail false c.requires.crosses.tail ∙ c.if-not-hubs-arrow.false in
-    hubs_there h a.tail (size c.args.work.now) c.in_map-tails.result c.in_map-tails.ensures on c.requires.stands (omega (arith, c.requires.bound 0))
+    hubs_there h a.tail (size c.args.work.now) (hubs_at h a.tail) refl on c.requires.stands (omega (arith, c.requires.bound 0))
 
-pub recursion::Recursion::take_arrow-link_all-requires-clause-heads : goal.recursion::Recursion::take_arrow-link_all-requires-clause-heads
-recursion::Recursion::take_arrow-link_all-requires-clause-heads t c =
+pub recursion::Recursion::take_arrow-link_hubs-requires-clause-heads : goal.recursion::Recursion::take_arrow-link_hubs-requires-clause-heads
+recursion::Recursion::take_arrow-link_hubs-requires-clause-heads t c =
     let h = c.args.self.now.hubs.now in
     let a = c.args.arrow in
     let on : get_or (members h) a.tail false ≡ true = get_or-take h.first h.marks a.tail false c.requires.crosses.tail ∙ c.if-not-hubs-arrow.false in
-    hubs_there h a.head (size c.args.work.now) c.in_map-heads.result c.in_map-heads.ensures (c.requires.crosses.closed on) c.requires.stands (omega (arith, c.requires.bound 0))
+    hubs_there h a.head (size c.args.work.now) (hubs_at h a.head) refl (c.requires.crosses.closed on) c.requires.stands (omega (arith, c.requires.bound 0))
 
 pub recursion::Recursion::take_arrow-run_body-requires : goal.recursion::Recursion::take_arrow-run_body-requires
 recursion::Recursion::take_arrow-run_body-requires t c =
@@ -327,7 +330,7 @@ pub recursion::Recursion::take_arrow-returns-then-is_blank : goal.recursion::Rec
 recursion::Recursion::take_arrow-returns-then-is_blank t c =
     let h = c.args.self.now.hubs.now in
     let a = c.args.arrow in
-    turn_blank h c.args.k a (get_or-take h.first h.marks a.tail false c.requires.crosses.tail ∙ c.if-not-hubs-arrow.false) (sym c.is_blank.ensures ∙ c.if-is_blank.true) (rw (← c.in_map-tails.ensures, ← c.in_map-heads.ensures) c.link_all.ensures)
+    turn_blank h c.args.k a (get_or-take h.first h.marks a.tail false c.requires.crosses.tail ∙ c.if-not-hubs-arrow.false) (sym c.is_blank.ensures ∙ c.if-is_blank.true) c.link_hubs.ensures
 
 pub recursion::Recursion::take_arrow-returns-else-is_blank : goal.recursion::Recursion::take_arrow-returns-else-is_blank
 recursion::Recursion::take_arrow-returns-else-is_blank t c =
@@ -351,8 +354,8 @@ recursion::Recursion::run_body-evaluate-requires t c =
       omega arith,
       (
         ap (λ (x : Environment). fits around.expression.now.constants x.level tree) e ∙ c.args.self.now.fitting,
-        subst (λ (x : Environment). Within (size u) x.nodes) (sym e)
-            (set_within (size u) (around.env.level + 1) a.head around.env.nodes (omega (arith, c.requires.crosses.head, c.requires.stands, more)) (wider (size w) (size u) around.env.nodes more c.requires.bound)),
+        subst (λ (x : Environment). Bound x (size u)) (sym e)
+            (bound_deeper (size u) around.env a.origin a.head (omega (arith, c.requires.crosses.head, c.requires.stands, more)) (bound_up (size w) (size u) around.env more c.requires.bound)),
       ),
     )
 
