@@ -2,7 +2,7 @@
 use Rattle.std.proofs.Common.{◌≡◌, ℕ, ◌+◌, ◌<◌, ◌≤◌, Bool, false, cond, List, [], ◌∷◌, ◌++◌, length, get_or, take, sym, refl, ap, ◌∙◌, add-zero, add_assoc, zero-add, arith, length-take}
 use Rattle.std.proofs.lemmas.List.{take_more}
 use Rattle.walks.specs.Reach.{trues}
-use Rattle.course.proofs.Walks.{trues_within}
+use Rattle.walks.proofs.Marking.{trues_within}
 
 pub trues_push : (m : List Bool) (b : Bool) → trues (m ++ b ∷ []) ≡ trues m + cond b 1 0
 unfolding trues

@@ -1,12 +1,11 @@
-pub mod Chains
 pub mod Course
 pub mod Ends
 pub mod Forward
 pub mod Hubs
 pub mod Labels
 pub mod Opening
+pub mod Outs
 pub mod Reach
 pub mod Recursions
 pub mod Sources
 pub mod View
-pub mod Walk

@@ -19,7 +19,7 @@ pub(crate) fn push_node(work: &mut Workspace, node: Node)
     work.nodes.push_reserved(node);
 }
 
-// Enters an arrow for which there is room, as the latest that leaves its tail.
+// Enters an arrow for which there is room.
 pub(crate) fn push_arrow(work: &mut Workspace, arrow: Arrow)
     requires { (arrow.tail < vec_len work.old.nodes) × ((arrow.head < vec_len work.old.nodes) × (vec_len work.old.arrows < 2048)) }
     ensures items { course_of work.new ≡ with_arrow arrow (course_of work.old) }
@@ -27,11 +27,8 @@ pub(crate) fn push_arrow(work: &mut Workspace, arrow: Arrow)
     ensures nodes { vec_len work.new.nodes ≡ vec_len work.old.nodes }
     ensures len { vec_len work.new.arrows ≡ vec_len work.old.arrows + 1 }
 {
-    let number = work.arrows.len();
-    let before = work.first[arrow.tail];
+    work.steps.add(arrow.tail, arrow.head);
     work.arrows.push_reserved(arrow);
-    work.next.push_reserved(before);
-    work.first[arrow.tail] = number + 1;
 }
 
 pub(crate) fn add_node(work: &mut Workspace, node: Node) -> Result<usize, Full>

@@ -7,8 +7,8 @@ ghost use Rattle.course.specs.Recursions.{Numbers, members, hubs_at};
 
 use crate::hub_table::Hubs;
 use crate::in_map::pick;
-use crate::reach::reach;
 use crate::workspace::Workspace;
+use walks::walk::walk;
 
 fn one(flag: bool) -> usize
     ensures { result ≡ (if flag then 1 else 0) }
@@ -70,10 +70,7 @@ pub(crate) fn find_hubs(
     requires { (root < vec_len work.now.nodes) × (first ≡ vec_len work.now.nodes) }
     ensures { Numbers result place frame set (vec_len work.now.nodes) (reached (vec_len work.now.nodes) work.now.arrows.items root) }
 {
-    let mut marks = [false; 1024];
-    let mut slots = [0; 1024];
-    reach(work, root, &mut marks, &mut slots);
-    number_hubs(marks, set, first, place, frame)
+    number_hubs(walk(&work.steps, root), set, first, place, frame)
 }
 
 // The number of a hub.

@@ -14,7 +14,6 @@ mod in_map;
 mod link;
 mod opening;
 mod outs;
-mod reach;
 pub mod readings;
 pub mod run;
 pub mod source;

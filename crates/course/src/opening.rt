@@ -19,8 +19,7 @@ pub(crate) fn clear(work: &mut Workspace)
     work.frames.clear();
     work.comparisons.clear();
     work.outs.clear();
-    work.next.clear();
-    work.first = [0; 1024];
+    work.steps.clear();
 }
 
 // Enters so many source nodes into an empty course.

@@ -1,6 +1,6 @@
 use Rattle.std.proofs.Common.{◌≡◌, ℕ, ◌*◌, ◌≤◌, length, get_or, refl, mul-le-mul, arith, rules}
 use Rattle.std.proofs.lemmas.List.{take-take}
-use Rattle.course.proofs.Walks.{trues_within}
+use Rattle.walks.proofs.Marking.{trues_within}
 use Rattle.course.proofs.Ranks.{trues_taken}
 use Rattle.course.proofs.hubs.hub.Goals as goal
 

@@ -2,8 +2,8 @@ use Rattle.std.proofs.Common.{◌≡◌, ◌+◌, ◌<◌, [], ◌∷◌, vec_it
 use Rattle.course.specs.declared.environment.Out.{Out}
 use Rattle.course.specs.Course.{enter_node}
 use Rattle.course.specs.Forward.{out}
-use Rattle.course.specs.Chains.{no_out}
-use Rattle.course.proofs.Chains.{every_push}
+use Rattle.course.specs.Outs.{no_out}
+use Rattle.course.proofs.Pushes.{every_push}
 use Rattle.course.proofs.Maps.{only_within}
 use Rattle.course.proofs.outs.open_node.Goals as goal
 
@@ -24,7 +24,6 @@ invariant_of-work c =
       frame_room = omega (arith, w.frame_room);
       comparison_room = omega (arith, w.comparison_room);
       out_room = omega (arith, w.out_room, c.push_reserved-2.ensures.capacity);
-      next_room = omega (arith, w.next_room);
       nodes_within = omega (arith, hl, num);
       arrows_within = omega (arith, w.arrows_within);
       outs_within = omega (arith, w.outs_within, hl, c.push_reserved-2.ensures.len);
@@ -32,9 +31,7 @@ invariant_of-work c =
       out_markers = every_push no_out (λ (x : Out). x.marker < 8) (vec_items w.outs) (vec_items c.push_reserved-2.new.self) (out c.len-node.result c.args.marker) (vec_len w.outs) (vec_len c.push_reserved-2.new.self) c.push_reserved-2.ensures.items w.outs.ok.0 c.push_reserved-2.ensures.len w.out_markers c.requires;
       tails = λ k h. omega (arith, w.tails k h, hl);
       heads = λ k h. omega (arith, w.heads k h, hl);
-      nexts = w.nexts;
-      first_out = w.first_out;
-      next_out = w.next_out;
+      linked = w.linked;
     }
 
 pub returns : goal.returns

@@ -1,6 +1,6 @@
 use Rattle.std.proofs.Common.{◌<◌, length, get_or, vec_items, vec_len, ap, ◌∙◌, arith, rules}
 use Rattle.std.proofs.lemmas.List.{get_or_read}
-use Rattle.course.specs.Chains.{no_out}
+use Rattle.course.specs.Outs.{no_out}
 use Rattle.course.specs.Forward.{tie}
 use Rattle.course.specs.View.{stack, size}
 use Rattle.course.proofs.Maps.{goes_exit, each_more, each_stops, each_none, wider}
