@@ -1,4 +1,3 @@
-pub mod Chains
 pub mod Ends
 pub mod Entries
 pub mod Fits
@@ -8,6 +7,7 @@ pub mod HubsIn
 pub mod Loops
 pub mod Maps
 pub mod Openings
+pub mod Pushes
 pub mod Ranks
 pub mod Recurs
 pub mod Runs

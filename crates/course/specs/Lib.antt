@@ -1,4 +1,3 @@
-pub mod Chains
 pub mod Course
 pub mod Ends
 pub mod Evaluators
@@ -6,8 +5,8 @@ pub mod Forward
 pub mod Hubs
 pub mod Labels
 pub mod Opening
+pub mod Outs
 pub mod Reach
 pub mod Recursions
 pub mod Sources
 pub mod View
-pub mod Walk

@@ -37,7 +37,7 @@ impl Workspace {
         self.nodes.push_reserved(node);
     }
 
-    // Enters an arrow for which there is room, as the latest that leaves its tail.
+    // Enters an arrow for which there is room.
     pub(crate) fn push_arrow(&mut self, arrow: Arrow)
         requires { (arrow.tail < vec_len self.old.nodes) × ((arrow.head < vec_len self.old.nodes) × (vec_len self.old.arrows < 2048)) }
         ensures items { course_of self.new ≡ with_arrow arrow (course_of self.old) }
@@ -45,11 +45,8 @@ impl Workspace {
         ensures nodes { vec_len self.new.nodes ≡ vec_len self.old.nodes }
         ensures len { vec_len self.new.arrows ≡ vec_len self.old.arrows + 1 }
     {
-        let number = self.arrows.len();
-        let before = self.first[arrow.tail];
+        self.steps.add(arrow.tail, arrow.head);
         self.arrows.push_reserved(arrow);
-        self.next.push_reserved(before);
-        self.first[arrow.tail] = number + 1;
     }
 
     // A node that stands for another.

@@ -5,9 +5,9 @@ ghost use Rattle.course.specs.Reach.{reached};
 ghost use Rattle.course.specs.Recursions.{Numbers};
 
 use crate::hub_table::Hubs;
-use crate::reach::reach;
 use crate::rule::Rule;
 use crate::workspace::Workspace;
+use walks::walk::walk;
 
 // For each flag how many are set before it; how many are set in all.
 fn rank(flags: &[bool], ranks: &mut [usize]) -> usize
@@ -50,9 +50,6 @@ impl Workspace {
         requires { (root < vec_len self.now.nodes) × (first ≡ vec_len self.now.nodes) }
         ensures { Numbers result rule.place rule.frame set (vec_len self.now.nodes) (reached (vec_len self.now.nodes) self.now.arrows.items root) }
     {
-        let mut marks = [false; 1024];
-        let mut slots = [0; 1024];
-        reach(self, root, &mut marks, &mut slots);
-        number_hubs(rule, marks, set, first)
+        number_hubs(rule, walk(&self.steps, root), set, first)
     }
 }

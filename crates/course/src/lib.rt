@@ -16,7 +16,6 @@ mod link;
 mod opening;
 mod outs;
 mod printed;
-mod reach;
 pub mod readings;
 mod recursion;
 mod rule;

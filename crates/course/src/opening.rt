@@ -19,8 +19,7 @@ impl Workspace {
         self.frames.clear();
         self.comparisons.clear();
         self.outs.clear();
-        self.next.clear();
-        self.first = [0; 1024];
+        self.steps.clear();
     }
 
     // Enters so many source nodes into an empty course.

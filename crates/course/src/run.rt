@@ -16,6 +16,7 @@ use crate::source::Source;
 use crate::workspace::Workspace;
 use expression::expression::Expression;
 use std::alloc::{AllocError, Global};
+use walks::step_table::StepTable;
 
 impl Workspace {
     // Memory for every entry that fits, with an empty course.
@@ -27,15 +28,14 @@ impl Workspace {
         let frames = Vec::with_capacity(heap, FRAMES)?;
         let comparisons = Vec::with_capacity(heap, COMPARISONS)?;
         let outs = Vec::with_capacity(heap, NODES)?;
-        let next = Vec::with_capacity(heap, ARROWS)?;
+        let steps = StepTable::new(heap)?;
         Ok(Workspace {
             nodes,
             arrows,
             frames,
             comparisons,
             outs,
-            first: [0; 1024],
-            next,
+            steps,
         })
     }
 

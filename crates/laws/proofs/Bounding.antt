@@ -35,7 +35,8 @@ use Rattle.laws.proofs.InMaps.{length_ins, every_merged, every_slots}
 use Rattle.laws.proofs.Members.{in_members, members_in, members_ascending}
 use Rattle.laws.proofs.Recursing.{hubs_entered, hub_same}
 use Rattle.laws.proofs.HubMaking.{more, Makes, made, stopped as unmade, makes_hubs, hub_there, length_joined}
-use Rattle.laws.proofs.Reaching.{get_or_within, reached_exact, reached_within, head_reached}
+use Rattle.walks.proofs.Marking.{marked_within}
+use Rattle.laws.proofs.Reaching.{reached_exact, reached_within, head_reached}
 
 module _ (s n : ℕ) where
   known : (o : Origin) → Labelled s n o → Known s n o
@@ -354,7 +355,7 @@ module _ (s n : ℕ) where
     member_node v i = reached_within (length c.nodes) c.arrows r v (in_members v flags i)
 
     member_marker : (m : ℕ) → In m (members 0 ms) → m < 8
-    member_marker m i = subst (λ k. m < k) eight (get_or_within m ms (in_members m ms i))
+    member_marker m i = subst (λ k. m < k) eight (marked_within ms m (in_members m ms i))
 
     abbrev hubs_made : List Node
     hubs_made = flat_map (λ v. map (hub_node p f v) (members 0 ms)) (members 0 flags)

@@ -28,9 +28,3 @@ module _ (arrows : List Arrow) (k : ℕ) (l : k < length arrows) where
 
   pub few_blanks : length (map ends (blanks (take k arrows))) ≤ k
   few_blanks = omega (arith, length-map (blanks (take k arrows)) ends, length-filter_both blank (λ a. not (blank a)) (λ a. refl) (take k arrows), length-take k arrows)
-
--- a step that a table has room for is added
-pub added : (old new : List (ℕ × ℕ)) (r : Bool) (t h : ℕ) → r ≡ (ltb (length old) 2048 && (ltb t 1024 && ltb h 1024)) → new ≡ cond r (old ++ (t, h) ∷ []) old →
-    length old < 2048 → t < 1024 → h < 1024 → new ≡ old ++ (t, h) ∷ []
-added old new r t h e q l lt lh =
-    q ∙ cond-true r (old ++ (t, h) ∷ []) old (e ∙ and_from (ltb (length old) 2048) (ltb t 1024 && ltb h 1024) (lt-ltb (length old) 2048 l) (and_from (ltb t 1024) (ltb h 1024) (lt-ltb t 1024 lt) (lt-ltb h 1024 lh)))

@@ -144,7 +144,7 @@ pub lead_reached : (n : ℕ) (steps : List (ℕ × ℕ)) (r v : ℕ) → v < n �
 lead_reached n steps r v l =
     subst (λ (b : Bool). (b ≡ true) ↔ Reaches steps r v) (sym (lead_at n steps r v l)) (exact steps r v)
 
-length_lead : (n : ℕ) (steps : List (ℕ × ℕ)) (r : ℕ) → length (lead n steps r) ≡ n
+pub length_lead : (n : ℕ) (steps : List (ℕ × ℕ)) (r : ℕ) → length (lead n steps r) ≡ n
 unfolding lead
 length_lead n steps r = length-map (from 0 n) (λ v. among v (closure steps (r ∷ []))) ∙ length_from 0 n
 

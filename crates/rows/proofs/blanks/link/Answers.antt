@@ -1,8 +1,9 @@
 use Rattle.std.proofs.Common.{◌<◌, ◌++◌, ◌∷◌, [], List, ℕ, length, get_or, sym, ap, ◌∙◌, arith}
 use Rattle.walks.specs.Tables.{steps_of}
+use Rattle.walks.proofs.Tables.{added}
 use Rattle.course.specs.Reach.{ends}
 use Rattle.rows.specs.Links.{none}
-use Rattle.rows.proofs.Linking.{blanks_more, blanks_same, few_blanks, added}
+use Rattle.rows.proofs.Linking.{blanks_more, blanks_same, few_blanks}
 use Rattle.rows.proofs.blanks.link.Goals as goal
 use Rattle.rows.proofs.blanks.link.Goals.{then-is_blank, else-is_blank}
 
