@@ -45,32 +45,22 @@ pub(crate) fn joined(letter: char, part: usize, other_part: usize) -> RawPlace {
 // A node with one arrow.
 pub(crate) fn edge(term: Term, part: usize) -> RawPlace {
     RawPlace {
-        letter: 'E',
         term,
-        other_term: Term::Constant(0),
-        number: 0,
-        part,
-        other_part: 0,
+        ..raw('E', 0, part, 0)
     }
 }
 
 // A choice between two parts, by two terms.
 pub(crate) fn choice(term: Term, other_term: Term, part: usize, other_part: usize) -> RawPlace {
     RawPlace {
-        letter: 'I',
         term,
         other_term,
-        number: 0,
-        part,
-        other_part,
+        ..raw('I', 0, part, other_part)
     }
 }
 
 // The refusal of a list of places, if any.
 pub(crate) fn told(places: &[RawPlace], constants: usize) -> Option<Refusal> {
     let mut expression = Expression::new();
-    match admit::admit(places, constants, &mut expression) {
-        Ok(()) => None,
-        Err(refusal) => Some(refusal),
-    }
+    admit::admit(places, constants, &mut expression).err()
 }

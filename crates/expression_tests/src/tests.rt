@@ -5,11 +5,12 @@ use expression::expression::Expression;
 use expression::raw::RawPlace;
 use expression::refusal::Refusal;
 use expression::term::Term;
+use std::test::Fail;
 
 // Puts each place but the first under a mark.
 fn chain(places: &mut [RawPlace]) {
-    for place in 1..places.len() {
-        places[place] = mark(0, place - 1);
+    for (part, place) in places.iter_mut().skip(1).enumerate() {
+        *place = mark(0, part);
     }
 }
 
@@ -143,6 +144,16 @@ fn sets(rt: HostRuntime) {
         Some(Refusal::SetsUnfit(2))
     );
     assert_eq!(rt; told(&[out(0)], 0), Some(Refusal::SetsUnfit(0)));
+}
+
+// A refusal is printed by its number, and by its place if it names one.
+#[test]
+fn printing(rt: HostRuntime) -> Result<(), Fail> {
+    let size = Refusal::Size.to_string(rt.alloc())?;
+    assert_eq!(rt; size.as_str(), "11");
+    let range = Refusal::OutOfRange(3).to_string(rt.alloc())?;
+    assert_eq!(rt; range.as_str(), "14 place=3");
+    Ok(())
 }
 
 // The number of the check decides before the place.
