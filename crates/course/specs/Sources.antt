@@ -7,7 +7,7 @@
 --   sized n l       whether n nodes and l arrows are as many as a source may have
 --   fault n as      what is wrong with n nodes and the arrows as, the counts first; None where it is a source
 --   Taken n as r    the answer r to n nodes and the arrows as: a source of just these, or their fault
-use Rattle.std.specs.Prelude.{◌≡◌, ℕ, suc, Bool, cond, ◌&&◌, List, [], ◌∷◌, length, take, Some, None, Ok, Err, Option, Result, nat_le}
+use Rattle.std.specs.Prelude.{◌≡◌, ℕ, suc, Bool, cond, ◌&&◌, List, [], ◌∷◌, length, Some, None, Ok, Err, Option, Result, nat_le}
 use Rattle.course.specs.declared.source.Source.{Source}
 use Rattle.course.specs.declared.source.SourceFault.{SourceFault}
 use Rattle.course.specs.declared.source.SourceFault.TheVariants.{Count, End}
@@ -21,7 +21,7 @@ abbrev pub graph : ℕ → List (ℕ × ℕ) → Graph
 graph n arrows = record { nodes = n; arrows = arrows }
 
 abbrev pub graph_of : Source → Graph
-graph_of s = graph s.nodes (take s.count s.arrows)
+graph_of s = graph s.nodes s.arrows.items
 
 abbrev pub outside : ℕ → ℕ → List (ℕ × ℕ) → Option SourceFault
 outside n k [] = None

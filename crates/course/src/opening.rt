@@ -41,10 +41,10 @@ impl Workspace {
     // Enters the arrows of a source whose nodes are entered.
     fn enter_arrows(&mut self, source: &Source)
         requires { course_of self.old ≡ with_nodes source.now.nodes }
-        ensures course { course_of self.new ≡ with_arrows source.now.nodes (take source.now.count source.now.arrows) }
+        ensures course { course_of self.new ≡ with_arrows source.now.nodes source.now.arrows.items }
         ensures outs { stack self.new ≡ stack self.old }
     {
-        for (k, &(tail, head)) in source.arrows[..source.count].iter().enumerate() {
+        for (k, &(tail, head)) in source.arrows.iter().enumerate() {
             self.push_arrow(Arrow {
                 tail,
                 head,

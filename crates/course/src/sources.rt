@@ -5,6 +5,7 @@ ghost use Rattle.course.specs.Ends.{joins as joins_of};
 ghost use Rattle.course.specs.Sources.{sized as sized_of, graph_of, Taken};
 
 use crate::source::{SOURCE_ARROWS, SOURCE_NODES, Source, SourceFault};
+use arrayvec::ArrayVec;
 
 // Whether there may be so many nodes and so many arrows.
 fn sized(nodes: usize, arrows: usize) -> bool
@@ -38,13 +39,8 @@ impl Source {
         if let Some(k) = first_outside(nodes, arrows) {
             return Err(SourceFault::End(k));
         }
-        let mut ends = [(0, 0); 256];
-        ends[..arrows.len()].copy_from_slice(arrows);
-        Ok(Source {
-            nodes,
-            arrows: ends,
-            count: arrows.len(),
-        })
+        let arrows = ArrayVec::try_from(arrows).map_err(|_| SourceFault::Count)?;
+        Ok(Source { nodes, arrows })
     }
 
     // How many nodes there are.
@@ -58,13 +54,13 @@ impl Source {
     pub fn arrows(&self) -> usize
         ensures { result ≡ length (graph_of self.now).arrows }
     {
-        self.count
+        self.arrows.len()
     }
 
     // The tail and the head of an arrow.
     pub fn ends(&self, arrow: usize) -> Option<(usize, usize)>
         ensures { result ≡ slice_get (graph_of self.now).arrows arrow }
     {
-        self.arrows[..self.count].get(arrow).copied()
+        self.arrows.get(arrow).copied()
     }
 }

@@ -1,7 +1,4 @@
-use Rattle.std.proofs.Common.{◌≡◌, List, length, take, drop, ◌++◌, sym, refl, ap, ◌∙◌}
-use Rattle.std.proofs.lemmas.List.{take_at}
-use Rattle.course.specs.Ends.{inside}
-use Rattle.course.specs.Sources.{graph}
+use Rattle.std.proofs.Common.{◌≡◌, sym, ap, ◌∙◌, rules}
 use Rattle.course.proofs.Ends.{fault_ends, outside_position, inside_all, end_of}
 use Rattle.course.proofs.source.Source.new.Goals as goal
 
@@ -15,13 +12,13 @@ pub invariant_of-result-clause-ends : goal.invariant_of-result-clause-ends
 invariant_of-result-clause-ends c =
     let n = c.args.nodes in
     let xs = c.args.arrows.now in
-    rw (c.copy_from_slice.ensures.after, take_at xs _ (length xs) refl)
-    (inside_all n 0 xs (outside_position n xs ∙ ap end_of (sym c.first_outside.ensures ∙ c.in_default.is)))
+    let e : c.in_ok-arrows.arrows.items ≡ xs = search rules in
+    rw e (inside_all n 0 xs (outside_position n xs ∙ ap end_of (sym c.first_outside.ensures ∙ c.in_default.is)))
 
 pub returns : goal.returns
 returns c =
     let n = c.args.nodes in
     let xs = c.args.arrows.now in (
-      rw (c.copy_from_slice.ensures.after, take_at xs _ (length xs) refl) refl,
+      search rules,
       fault_ends n xs (sym c.sized.ensures ∙ c.if-not-sized.false) ∙ outside_position n xs ∙ ap end_of (sym c.first_outside.ensures ∙ c.in_default.is),
     )
