@@ -1,7 +1,9 @@
 -- What the two comparisons of a number of seconds or metres say. Assumes nothing.
-use Rattle.std.proofs.Common.{◌≡◌, ℕ, zero, suc, ◌+◌, ◌*◌, ◌<◌, true, false, ◌&&◌, ◌||◌, eqb, ltb, leb, ℤ, pos, negsuc, refl, ap, ◌∙◌, zero-lt-suc, mul-pos, zero-mul, mul-one, arith, pow_pos}
+use Rattle.std.proofs.Common.{◌≡◌, Bool, cond, Some, None, ℕ, zero, suc, ◌+◌, ◌*◌, ◌<◌, true, false, ◌&&◌, ◌||◌, eqb, ltb, leb, ℤ, pos, negsuc, refl, ap, ◌∙◌, zero-lt-suc, mul-pos, zero-mul, mul-one, arith, pow_pos}
 use lib.Ieee.{Float, nan, inf, fin, binary32, up, down, le, lt, eq, of_bits, of_fields, odd}
 use Rattle.std.proofs.lemmas.Bool.Decides.{nat_tests}
+use Rattle.std.specs.Ordering.{partial_le, float_partial_cmp, is_some_and, is_le}
+use Rattle.std.specs.declared.cmp.Ordering.TheVariants.{Less, Equal, Greater}
 use Rattle.kinds.specs.Settings.{inside}
 
 lit_zero : of_bits binary32 0 ≡ fin false 0 (pos 0)
@@ -40,3 +42,14 @@ between (fin true (suc m) e) = minus_some (0 * down e) (suc m * up e * 1) (suc m
 
 pub in_range_lem : (x : Float) → (le (of_bits binary32 0) x && le x (of_bits binary32 1176255488)) ≡ inside x
 in_range_lem x = ap (λ (z : Float). le z x && le x (of_bits binary32 1176255488)) lit_zero ∙ ap (λ (z : Float). le (fin false 0 (pos 0)) x && le x z) lit_top ∙ between x
+
+-- whether one float is at most another, as their order tells it
+pub le_by_order : (x y : Float) → partial_le float_partial_cmp x y ≡ le x y
+unfolding le
+le_by_order x y = go (lt x y) (eq x y) (lt y x)
+  where
+    go : (a b c : Bool) → is_some_and is_le (cond a (Some Less) (cond b (Some Equal) (cond c (Some Greater) None))) ≡ (a || b)
+    go true b c = refl
+    go false true c = refl
+    go false false true = refl
+    go false false false = refl

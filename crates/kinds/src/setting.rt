@@ -32,7 +32,7 @@ pub struct SettingLabel {
 fn in_range(x: f32) -> bool
     ensures { result ≡ inside x }
 {
-    0.0 <= x && x <= 9999.0
+    (0.0..=9999.0).contains(&x)
 }
 
 impl Setting {
