@@ -23,7 +23,7 @@ pub const MARKERS: usize = 8;
 #[derive(Drop)]
 pub struct Expression {
     pub(crate) table: Table,
-    // Levels and sets stay arrays of their own: each is found by a pass over the arrays before it.
+    // Kept as arrays beside the table: its facts are its type's, and each array is found by a pass.
     pub(crate) levels: [usize; PLACES],
     pub(crate) sets: [Sets; PLACES],
     pub(crate) constants: usize,

@@ -75,6 +75,7 @@ impl Table {
         ensures { HasLevels self.now.forms self.now.count result }
     {
         let mut levels = [0; PLACES];
+        // Kept by number: a place's level is read, and lower places' are written, in one array.
         for place in (0..self.count).rev() {
             let level = levels[place];
             give_levels(&mut levels, self.forms[place], level);
