@@ -23,7 +23,7 @@ pub const MARKERS: usize = 8;
 #[derive(Drop)]
 pub struct Expression {
     pub(crate) table: Table,
-    // Kept as arrays beside the table: its facts are its type's, and each array is found by a pass.
+    // Kept beside the table, not in its places: each is found from a table that is whole already.
     pub(crate) levels: [usize; PLACES],
     pub(crate) sets: [Sets; PLACES],
     pub(crate) constants: usize,
