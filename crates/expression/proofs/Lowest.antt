@@ -15,17 +15,14 @@ module _ (test : ℕ → Bool) where
   unfolding lowest
   lowest_more n h e = ap (λ (k : ℕ). lowest k test) (add-one n) ∙ ap₂ (λ (o : Option ℕ) (b : Bool). or_here o b n) h e
 
-  stays : (p n : ℕ) → lowest p test ≡ None → test p ≡ false → p < n → lowest n test ≡ Some p
+  pub lowest_found : (p n : ℕ) → lowest p test ≡ None → test p ≡ false → p < n → lowest n test ≡ Some p
   unfolding lowest
-  stays p zero h e l = absurd (not-suc-le-zero l)
-  stays p (suc n) h e l =
+  lowest_found p zero h e l = absurd (not-suc-le-zero l)
+  lowest_found p (suc n) h e l =
       ⊎_elim
       (λ (i : p ≡ n). ap (λ (k : ℕ). lowest (suc k) test) (sym i) ∙ ap₂ (λ (o : Option ℕ) (b : Bool). or_here o b p) h e)
-      (λ (i : p ≡ n → ⊥). ap (λ (o : Option ℕ). or_here o (test n) n) (stays p n h e (omega arith)))
+      (λ (i : p ≡ n → ⊥). ap (λ (o : Option ℕ). or_here o (test n) n) (lowest_found p n h e (omega arith)))
       (cases_eq p n)
-
-  pub lowest_found : (p n : ℕ) → lowest p test ≡ None → test p ≡ false → p < n → lowest n test ≡ Some p
-  lowest_found p n h e l = stays p n h e l
 
   all_pass : (n : ℕ) → ((k : ℕ) → 0 ≤ k → k < n → test k ≡ true) → lowest n test ≡ None
   unfolding lowest
@@ -41,9 +38,9 @@ module _ (test : ℕ → Bool) where
       sym (lowest_found p n (all_pass p (λ k z l. sym (same k (omega arith)) ∙ h.3 k z l)) (sym (same p h.1) ∙ h.2) h.1)
 
   passed : (o : Option ℕ) (b : Bool) (n : ℕ) → or_here o b n ≡ None → (o ≡ None) × (b ≡ true)
-  passed (Some p) b n h = let z : ◌≡◌ {A = ℕ} 0 1 = cc in let w : ⊥ = omega arith in absurd w
+  passed (Some p) b n h = absurd (cc)
   passed None true n h = (refl, refl)
-  passed None false n h = let z : ◌≡◌ {A = ℕ} 0 1 = cc in let w : ⊥ = omega arith in absurd w
+  passed None false n h = absurd (cc)
 
   -- where no place fails, each passes
   pub each_passes : (n : ℕ) → lowest n test ≡ None → (p : ℕ) → p < n → test p ≡ true

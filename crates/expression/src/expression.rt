@@ -23,7 +23,7 @@ pub const MARKERS: usize = 8;
 #[derive(Drop)]
 pub struct Expression {
     pub(crate) table: Table,
-    // Levels and sets stay arrays of their own: each is found by a pass over the arrays before it.
+    // Kept beside the table, not in its places: each is found from a table that is whole already.
     pub(crate) levels: [usize; PLACES],
     pub(crate) sets: [Sets; PLACES],
     pub(crate) constants: usize,

@@ -17,7 +17,8 @@ const LEVELS: usize = 4;
 
 // Gives the parts of a form at a level their levels.
 fn give_levels(levels: &mut [usize], form: Form, level: usize)
-    requires { (Below (length levels.old) (parts_of form)) × (level < 100) }
+    requires inside { Below (length levels.old) (parts_of form) }
+    requires small { level < 100 }
     ensures parts { (p : ℕ) → 0 < times p (parts_of form) → slice_index levels.new p ≡ raised form p level }
     ensures others { (p : ℕ) → times p (parts_of form) ≡ 0 → slice_index levels.new p ≡ slice_index levels.old p }
 {
@@ -75,6 +76,7 @@ impl Table {
         ensures { HasLevels self.now.forms self.now.count result }
     {
         let mut levels = [0; PLACES];
+        // Kept by number: a place's level is read, and lower places' are written, in one array.
         for place in (0..self.count).rev() {
             let level = levels[place];
             give_levels(&mut levels, self.forms[place], level);

@@ -27,12 +27,14 @@ pub(crate) fn both(left: [bool; MARKERS], right: [bool; MARKERS]) -> [bool; MARK
 pub(crate) fn apart(left: [bool; MARKERS], right: [bool; MARKERS]) -> bool
     ensures { result ≡ apart_from left right }
 {
-    left.iter().zip(&right).all(|(l, r)| !(*l && *r))
+    left.iter()
+        .zip(&right)
+        .all(|(one, other)| !(*one && *other))
 }
 
 // Whether the second set has every marker of the first.
 pub(crate) fn within(left: [bool; MARKERS], right: [bool; MARKERS]) -> bool
     ensures { result ≡ within_of left right }
 {
-    left.iter().zip(&right).all(|(l, r)| !*l || *r)
+    left.iter().zip(&right).all(|(one, other)| !*one || *other)
 }

@@ -37,20 +37,13 @@ impl Expression {
         self.count() - 1
     }
 
-    // The form that the table has at a place; past the end a Zero.
-    fn stored(&self, place: usize) -> Form
-        ensures { result ≡ form_of self.now place }
-    {
-        self.table.forms.get(place).copied().unwrap_or(Form::Zero)
-    }
-
     // The form of a place, whose parts stand lower; past the end a Zero.
     pub fn form(&self, place: usize) -> Form
         ensures value { result ≡ form_of self.now place }
         ensures tree { tree_of self.now place ≡ grown result place (tree_of self.now) }
         ensures low { Lower place result }
     {
-        self.stored(place)
+        self.table.forms.get(place).copied().unwrap_or(Form::Zero)
     }
 
     // The sets of a place; past the end those of a Zero.

@@ -2,6 +2,7 @@
 ghost use Rattle.std.specs.Prelude.{◌≡◌, Some as Printed};
 ghost use Rattle.expression.specs.Refusals.{number_of, place_of, printed};
 
+use std::error::Error;
 use std::fmt;
 
 // The first check that failed, with the lowest place at which it did.
@@ -59,3 +60,5 @@ impl fmt::Display for Refusal {
         }
     }
 }
+
+impl Error for Refusal {}

@@ -12,7 +12,8 @@ use crate::table::Table;
 
 // Counts the uses that one form's parts are.
 fn count_parts(counts: &mut [usize], parts: Parts)
-    requires { (Below (length counts.old) (listed parts)) × (((p : ℕ) → slice_index counts.old p < 900)) }
+    requires inside { Below (length counts.old) (listed parts) }
+    requires small { (p : ℕ) → slice_index counts.old p < 900 }
     ensures { (p : ℕ) → p < length counts.old → slice_index counts.new p ≡ slice_index counts.old p + times p (listed parts) }
 {
     for part in parts {

@@ -1,11 +1,17 @@
-use Rattle.std.proofs.Common.{sym, ap, ◌∙◌}
+use Rattle.std.proofs.Common.{◌≡◌, get_or, sym, ap, ◌∙◌, subst, rules}
 use Rattle.expression.specs.declared.form.Form.{Form}
-use Rattle.expression.specs.Forms.{grown, tree_at}
-use Rattle.expression.proofs.Trees.{unrolls}
+use Rattle.expression.specs.declared.form.Form.TheVariants.{Zero}
+use Rattle.expression.specs.Forms.{Lower, grown, tree_at}
+use Rattle.expression.proofs.Trees.{unrolls, lower_tells}
 use Rattle.expression.proofs.expression.Expression.form.Goals as goal
 
-pub returns-clause-tree : goal.returns-clause-tree
-returns-clause-tree c =
+pub returns : goal.returns
+returns c =
     let table = c.args.self.now.table in
     let p = c.args.place in
-    unrolls table.forms table.lower_parts p ∙ ap (λ (q : Form). grown q p (tree_at table.forms)) (sym c.stored.ensures)
+    let is : c.unwrap_or.result ≡ get_or table.forms p Zero = search rules in
+    record {
+      value = is;
+      tree = unrolls table.forms table.lower_parts p ∙ ap (λ (q : Form). grown q p (tree_at table.forms)) (sym is);
+      low = subst (Lower p) (sym is) (lower_tells p (get_or table.forms p Zero) (table.lower_parts p));
+    }

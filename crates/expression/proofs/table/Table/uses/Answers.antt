@@ -3,7 +3,7 @@ use Rattle.std.proofs.lemmas.List.{get_or-replicate, get_or-take, length-take-le
 use Rattle.expression.specs.declared.form.Form.{Form}
 use Rattle.expression.specs.declared.form.Form.TheVariants.{Zero}
 use Rattle.expression.specs.Forms.{parts_of}
-use Rattle.expression.specs.Parts.{Below, times, uses}
+use Rattle.expression.specs.Parts.{Below, times}
 use Rattle.expression.proofs.Occurring.{below_at}
 use Rattle.expression.proofs.Counting.{uses_none, uses_more, below_further, counts_small}
 use Rattle.expression.proofs.table.Table.uses.Goals as goal
@@ -21,11 +21,12 @@ count_parts-requires c =
     let i = c.loop-form.form-index in
     let counts = c.loop-form.counts in
     let at = in_use table.count i table.forms (omega arith) c.loop-form-test.true in
-    let below : i ≤ length counts = omega arith in (
-      subst (Below (length counts)) (sym (c.parts.ensures ∙ ap parts_of at.1))
-          (below_further i (length counts) (parts_of (get_or table.forms i Zero)) below (below_at table.forms table.lower_parts i)),
-      counts_small table.forms counts i (omega arith) c.loop-form.invariant.0 c.loop-form.invariant.1,
-    )
+    let below : i ≤ length counts = omega arith in
+    record {
+      inside = subst (Below (length counts)) (sym (c.parts.ensures ∙ ap parts_of at.1))
+          (below_further i (length counts) (parts_of (get_or table.forms i Zero)) below (below_at table.forms table.lower_parts i));
+      small = counts_small table.forms counts i (omega arith) c.loop-form.invariant.0 c.loop-form.invariant.1;
+    }
 
 pub loop-form-preserved : goal.loop-form-preserved
 loop-form-preserved c =
@@ -41,10 +42,3 @@ loop-form-preserved c =
           let k = ap (times p) (c.parts.ensures ∙ ap parts_of at.1) in
           omega arith,
     )
-
-pub returns : goal.returns
-returns c p l =
-    let table = c.args.self.now in
-    let loop = c.loop-form in
-    let end : loop.form-index ≡ table.count = omega (arith, length-take-le table.count table.forms (omega arith)) in
-    loop.invariant.1 p l ∙ ap (λ (n : ℕ). uses table.forms n p) end
