@@ -1,4 +1,4 @@
--- Where a number stands among ascending ones. Assumes nothing.
+-- Where a number stands in a list, or belongs, after lower ones. Assumes nothing.
 --
 --   Stands rs r at      the number r stands at the place `at` in rs, and lower ones before it
 --   Missing rs r at     it does not: lower ones stand before the place, and a higher one at it, if any

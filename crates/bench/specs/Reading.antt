@@ -112,8 +112,8 @@ module _ {L : Type 0} where
   abbrev pub Steps : (L → L → Bool) → ℕ → Request L → Bench → Lists L → Bench → Lists L → Answer L → Type 0
   Steps alike n r b t b' t' a = (desk b' t', a) ≡ step alike (handed (short b t) n r) (desk b t)
 
-  abbrev pub Reads : (L → L → Bool) → Request L → Bench → Lists L → Answer L → Type 0
-  Reads alike r b t a = Steps alike 0 r b t b t a
+  abbrev pub Reads : (L → L → Bool) → Request L → Bench → Tables L → Answer L → Type 0
+  Reads alike r b t a = Steps alike 0 r b (lists_of t) b (lists_of t) a
 
   abbrev pub begun : Result Slip Refusal → Answer L
   begun (Ok s) = answer.Begun s.number

@@ -1,7 +1,7 @@
 // What a bench tells of its draft and its history.
 ghost use Rattle.editing.specs.declared.request.Request.TheVariants as ask;
 ghost use Rattle.editing.specs.declared.request.Answer.TheVariants as answer;
-ghost use Rattle.bench.specs.Reading.{Reads, lists_of, said};
+ghost use Rattle.bench.specs.Reading.{Reads, said};
 
 use crate::bench::Bench;
 use crate::tables::Tables;
@@ -12,7 +12,7 @@ use kinds::label::Label;
 impl Bench {
     // How many edits the draft has; none where no draft is open.
     pub fn draft<L: Label>(&self, tables: &Tables<L>) -> Result<Option<usize>, Refusal>
-        ensures { Reads L.alike ask.Draft self.now (lists_of tables.now) (said (λ x. answer.Draft x) result) }
+        ensures { Reads L.alike ask.Draft self.now tables.now (said answer.Draft result) }
     {
         self.ready(tables)?;
         Ok(self.draft.map(|draft| draft.count))
@@ -24,7 +24,7 @@ impl Bench {
         index: usize,
         tables: &Tables<L>,
     ) -> Result<Option<Edit<L>>, Refusal>
-        ensures { Reads L.alike (ask.Edit index) self.now (lists_of tables.now) (said (λ x. answer.Edit x) result) }
+        ensures { Reads L.alike (ask.Edit index) self.now tables.now (said answer.Edit result) }
     {
         self.ready(tables)?;
         Ok(
@@ -35,7 +35,7 @@ impl Bench {
 
     // How many commits stand, and how many are undone.
     pub fn commits<L: Label>(&self, tables: &Tables<L>) -> Result<Commits, Refusal>
-        ensures { Reads L.alike ask.History self.now (lists_of tables.now) (said (λ x. answer.History x) result) }
+        ensures { Reads L.alike ask.History self.now tables.now (said answer.History result) }
     {
         self.ready(tables)?;
         Ok(Commits {

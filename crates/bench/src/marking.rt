@@ -1,7 +1,7 @@
 // Asking a label for a row.
 ghost use Rattle.std.specs.Prelude.{◌≡◌};
 ghost use Rattle.editing.specs.declared.request.Request.TheVariants as ask;
-ghost use Rattle.bench.specs.Reading.{Steps, Lists, told};
+ghost use Rattle.bench.specs.Reading.{Steps, told};
 
 use crate::bench::{Bench, Slip};
 use crate::tables::Tables;

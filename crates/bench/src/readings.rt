@@ -36,7 +36,7 @@ impl Bench {
 
     // A row of the view, with its present label.
     pub fn row<L: Label>(&self, index: usize, tables: &Tables<L>) -> Result<(Row, L), Refusal>
-        ensures { Reads L.alike (ask.Row index) self.now (lists_of tables.now) (said (λ x. answer.Row x.0 x.1) result) }
+        ensures { Reads L.alike (ask.Row index) self.now tables.now (said (λ x. answer.Row x.0 x.1) result) }
     {
         self.ready(tables)?;
         self.shown_row(index, tables).ok_or(Refusal::NoSuchEntry)
@@ -45,7 +45,7 @@ impl Bench {
     // Kept apart by list: each reading is the checks and one call, and a helper would say no less.
     // A node of the course.
     pub fn node<L: Label>(&self, number: usize, tables: &Tables<L>) -> Result<Node, Refusal>
-        ensures { Reads L.alike (ask.Node number) self.now (lists_of tables.now) (said (λ x. answer.Node x) result) }
+        ensures { Reads L.alike (ask.Node number) self.now tables.now (said answer.Node result) }
     {
         self.ready(tables)?;
         self.workspace.node(number).ok_or(Refusal::NoSuchEntry)
@@ -53,7 +53,7 @@ impl Bench {
 
     // An arrow of the course.
     pub fn arrow<L: Label>(&self, number: usize, tables: &Tables<L>) -> Result<Arrow, Refusal>
-        ensures { Reads L.alike (ask.Arrow number) self.now (lists_of tables.now) (said (λ x. answer.Arrow x) result) }
+        ensures { Reads L.alike (ask.Arrow number) self.now tables.now (said answer.Arrow result) }
     {
         self.ready(tables)?;
         self.workspace.arrow(number).ok_or(Refusal::NoSuchEntry)
@@ -61,7 +61,7 @@ impl Bench {
 
     // A frame of the course.
     pub fn frame<L: Label>(&self, number: usize, tables: &Tables<L>) -> Result<Frame, Refusal>
-        ensures { Reads L.alike (ask.Frame number) self.now (lists_of tables.now) (said (λ x. answer.Frame x) result) }
+        ensures { Reads L.alike (ask.Frame number) self.now tables.now (said answer.Frame result) }
     {
         self.ready(tables)?;
         self.workspace.frame(number).ok_or(Refusal::NoSuchEntry)
@@ -73,7 +73,7 @@ impl Bench {
         number: usize,
         tables: &Tables<L>,
     ) -> Result<Comparison, Refusal>
-        ensures { Reads L.alike (ask.Comparison number) self.now (lists_of tables.now) (said (λ x. answer.Comparison x) result) }
+        ensures { Reads L.alike (ask.Comparison number) self.now tables.now (said answer.Comparison result) }
     {
         self.ready(tables)?;
         self.workspace
@@ -87,7 +87,7 @@ impl Bench {
         arrow: usize,
         tables: &Tables<L>,
     ) -> Result<((usize, usize), L), Refusal>
-        ensures { Reads L.alike (ask.SourceArrow arrow) self.now (lists_of tables.now) (said (λ x. answer.SourceArrow x.0 x.1) result) }
+        ensures { Reads L.alike (ask.SourceArrow arrow) self.now tables.now (said (λ x. answer.SourceArrow x.0 x.1) result) }
     {
         self.ready(tables)?;
         self.shown_arrow(arrow, tables.labels)
@@ -96,7 +96,7 @@ impl Bench {
 
     // How many rows, entries of the course and source arrows there are.
     pub fn counts<L: Label>(&self, tables: &Tables<L>) -> Result<Counts, Refusal>
-        ensures { Reads L.alike ask.Counts self.now (lists_of tables.now) (said (λ x. answer.Counts x) result) }
+        ensures { Reads L.alike ask.Counts self.now tables.now (said answer.Counts result) }
     {
         self.ready(tables)?;
         let sizes = self.workspace.sizes();
