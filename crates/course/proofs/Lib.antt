@@ -1,6 +1,5 @@
 pub mod Chains
 pub mod Ends
-pub mod Entries
 pub mod Fits
 pub mod Forms
 pub mod Grows

@@ -1,7 +1,6 @@
 -- In-maps: their nodes are there, and loops that fill one or go through part of a list. Assumes nothing.
 use Rattle.std.proofs.Common.{◌≡◌, ℕ, zero, suc, ◌+◌, ◌-◌, ◌<◌, ◌≤◌, Bool, true, false, List, [], ◌∷◌, ◌++◌, length, get_or, take, drop, set, replicate, IsErrAnd, Ok, Err, Result, sym, refl, ap, ◌∙◌, append_assoc, append-nil, add-one, arith}
-use Rattle.std.proofs.lemmas.List.{drop_more, drop_all, take_more, take_more_set, take_all, take_at, drop_at, drop-drop, length-take-le}
-use Rattle.std.specs.List.{remove}
+use Rattle.std.proofs.lemmas.List.{drop_more, drop_all, take_more, take_more_set, take_all}
 use Rattle.course.specs.declared.workspace.Workspace.{Workspace}
 use Rattle.course.specs.declared.course.Full.{Full}
 use Rattle.course.specs.declared.course.Origin.{Origin}
@@ -125,14 +124,3 @@ pub makes_exit : {run : Run (List ℕ)} {w v : Workspace} {x : Full} (r : Result
     → IsErrAnd r (λ y. y ≡ x) → run ≡ full x → Makes run w v r
 makes_exit (Ok n) e s = absurd e
 makes_exit (Err y) e s = record { told = s ∙ ap full (sym e) }
-
--- one more element taken out at b
-pub cut_more : {X : Type 0} (s : List X) (b i : ℕ) → b ≤ i → i < length s
-    → remove (take b s ++ drop i s) b ≡ take b s ++ drop (i + 1) s
-cut_more s b i h l =
-    let n : b ≤ length s = omega arith in
-    let t : take b (take b s ++ drop i s) ≡ take b s = take_at (take b s) (drop i s) b (length-take-le b s n) in
-    let d : drop b (take b s ++ drop i s) ≡ drop i s = drop_at (take b s) (drop i s) b (length-take-le b s n) in
-    let g : drop (suc b) (take b s ++ drop i s) ≡ drop (i + 1) s
-    = rw (← add-one) (sym (drop-drop 1 b (take b s ++ drop i s)) ∙ ap (drop 1) d ∙ drop-drop 1 i s) in
-    rw (t, g) refl

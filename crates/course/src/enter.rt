@@ -81,6 +81,7 @@ impl Workspace {
         self.add_node(rule, marker, stands)
     }
 
+    // An arrow from one node to another.
     #[tactic(auto, unfolding(crate::specs::Course::enter_arrow))]
     pub(crate) fn add_arrow(
         &mut self,
@@ -119,6 +120,7 @@ impl Workspace {
         Ok(number)
     }
 
+    // A comparison, with its outcome.
     #[tactic(auto, unfolding(crate::specs::Forward::compared, crate::specs::Course::enter_comparison))]
     pub(crate) fn add_comparison(
         &mut self,

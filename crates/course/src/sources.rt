@@ -10,7 +10,7 @@ use crate::source::{SOURCE_ARROWS, SOURCE_NODES, Source, SourceFault};
 fn sized(nodes: usize, arrows: usize) -> bool
     ensures { result ≡ sized_of nodes arrows }
 {
-    1 <= nodes && nodes <= SOURCE_NODES && arrows <= SOURCE_ARROWS
+    (1..=SOURCE_NODES).contains(&nodes) && arrows <= SOURCE_ARROWS
 }
 
 // Whether both ends of an arrow are among so many nodes.

@@ -1,7 +1,5 @@
-use Rattle.std.proofs.Common.{◌≡◌, List, length, take, drop, ◌++◌, sym, refl, ap, ◌∙◌}
+use Rattle.std.proofs.Common.{length, sym, refl, ap, ◌∙◌}
 use Rattle.std.proofs.lemmas.List.{take_at}
-use Rattle.course.specs.Ends.{inside}
-use Rattle.course.specs.Sources.{graph}
 use Rattle.course.proofs.Ends.{fault_ends, outside_position, inside_all, end_of}
 use Rattle.course.proofs.source.Source.new.Goals as goal
 

@@ -1,8 +1,7 @@
-use Rattle.std.proofs.Common.{◌<◌, [], length, get_or, take, sym, refl, ap, ◌∙◌, arith}
-use Rattle.std.proofs.lemmas.List.{get_or-take, length-take-le}
+use Rattle.std.proofs.Common.{◌<◌, [], length, get_or, take, refl, ap, ◌∙◌, arith}
+use Rattle.std.proofs.lemmas.List.{length-take-le}
 use Rattle.course.specs.declared.course.Origin.TheVariants.{Source}
 use Rattle.course.specs.Course.{Course, link}
-use Rattle.course.specs.Ends.{joins}
 use Rattle.course.specs.Opening.{source_nodes}
 use Rattle.course.specs.View.{with_arrow}
 use Rattle.course.proofs.Ends.{inside_at, joined_ends}
