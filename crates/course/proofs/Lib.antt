@@ -1,5 +1,4 @@
 pub mod Ends
-pub mod Entries
 pub mod Fits
 pub mod Forms
 pub mod Grows

@@ -1,7 +1,9 @@
--- In-maps: their nodes are there, and loops that fill one or go through part of a list. Assumes nothing.
-use Rattle.std.proofs.Common.{◌≡◌, ℕ, zero, suc, ◌+◌, ◌-◌, ◌<◌, ◌≤◌, Bool, true, false, List, [], ◌∷◌, ◌++◌, length, get_or, take, drop, set, replicate, IsErrAnd, Ok, Err, Result, sym, refl, ap, ◌∙◌, append_assoc, append-nil, add-one, arith}
-use Rattle.std.proofs.lemmas.List.{drop_more, drop_all, take_more, take_more_set, take_all, take_at, drop_at, drop-drop, length-take-le}
-use Rattle.std.specs.List.{remove}
+-- In-maps and environments: their nodes are there; loops that fill an in-map or go through part of a list. Assumes nothing.
+use Rattle.std.proofs.Common.{◌≡◌, ℕ, zero, suc, ◌+◌, ◌-◌, ◌<◌, ◌≤◌, Bool, true, false, List, [], ◌∷◌, ◌++◌, length, get_or, take, drop, set, replicate, IsErrAnd, Ok, Err, Result, sym, refl, ap, ◌∙◌, append_assoc, append-nil, add-one, subst, ⊎_elim, length-append, length-drop, arith}
+use Rattle.std.proofs.lemmas.List.{drop_more, drop_all, take_more, take_more_set, take_all, get_or-drop, get_or-take, length-take-le}
+use Rattle.std.proofs.lemmas.Bool.{cases_lt}
+use Rattle.std.proofs.Math.ListN.{get_or-append}
+use Rattle.std.proofs.Math.Seq.{get_or-append_right}
 use Rattle.course.specs.declared.workspace.Workspace.{Workspace}
 use Rattle.course.specs.declared.course.Full.{Full}
 use Rattle.course.specs.declared.course.Origin.{Origin}
@@ -126,13 +128,13 @@ pub makes_exit : {run : Run (List ℕ)} {w v : Workspace} {x : Full} (r : Result
 makes_exit (Ok n) e s = absurd e
 makes_exit (Err y) e s = record { told = s ∙ ap full (sym e) }
 
--- one more element taken out at b
-pub cut_more : {X : Type 0} (s : List X) (b i : ℕ) → b ≤ i → i < length s
-    → remove (take b s ++ drop i s) b ≡ take b s ++ drop (i + 1) s
-cut_more s b i h l =
-    let n : b ≤ length s = omega arith in
-    let t : take b (take b s ++ drop i s) ≡ take b s = take_at (take b s) (drop i s) b (length-take-le b s n) in
-    let d : drop b (take b s ++ drop i s) ≡ drop i s = drop_at (take b s) (drop i s) b (length-take-le b s n) in
-    let g : drop (suc b) (take b s ++ drop i s) ≡ drop (i + 1) s
-    = rw (← add-one) (sym (drop-drop 1 b (take b s ++ drop i s)) ∙ ap (drop 1) d ∙ drop-drop 1 i s) in
-    rw (t, g) refl
+-- a fact of every element, where a part is taken out
+pub every_cut : {X : Type 0} (d : X) (P : X → Type 0) (xs ys : List X) (b m : ℕ) → b ≤ m → m ≤ length xs → ys ≡ take b xs ++ drop m xs
+    → ((k : ℕ) → k < length xs → P (get_or xs k d)) → (k : ℕ) → k < length ys → P (get_or ys k d)
+every_cut d P xs ys b m lo hi e old k h =
+    let front : length (take b xs) ≡ b = length-take-le b xs (omega arith) in
+    let long : length ys ≡ length (take b xs) + (length xs - m) = simp (length-append, length-drop) at (ap length e) in
+    ⊎_elim
+    (λ q. subst P (sym (ap (λ z. get_or z k d) e ∙ get_or-append (take b xs) (drop m xs) d k (omega arith) ∙ get_or-take b xs k d q)) (old k (omega arith)))
+    (λ q. subst P (sym (ap (λ z. get_or z k d) e ∙ get_or-append_right (take b xs) (drop m xs) k d (omega arith) ∙ get_or-drop m xs (k - length (take b xs)) d)) (old (m + (k - length (take b xs))) (omega arith)))
+    (cases_lt k b)

@@ -78,6 +78,7 @@ impl Workspace {
         self.add_node(rule, marker, stands)
     }
 
+    // An arrow from one node to another.
     #[tactic(auto, unfolding(crate::specs::Course::enter_arrow))]
     pub(crate) fn add_arrow(
         &mut self,
@@ -116,6 +117,7 @@ impl Workspace {
         Ok(number)
     }
 
+    // A comparison, with its outcome.
     #[tactic(auto, unfolding(crate::specs::Forward::compared, crate::specs::Course::enter_comparison))]
     pub(crate) fn add_comparison(
         &mut self,

@@ -12,6 +12,7 @@ pub struct Extent {
 }
 
 impl Workspace {
+    // How far it is filled.
     pub(crate) fn extent(&self) -> Extent
         ensures nodes { result.nodes ≡ vec_len self.now.nodes }
         ensures arrows { result.arrows ≡ vec_len self.now.arrows }

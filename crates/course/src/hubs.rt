@@ -30,7 +30,7 @@ fn number_hubs(rule: Rule, marks: [bool; 1024], set: [bool; 8], first: usize) ->
 {
     let mut ranks = [0; 1024];
     let mut markers = [0; 8];
-    let _count = rank(&marks, &mut ranks);
+    rank(&marks, &mut ranks);
     let width = rank(&set, &mut markers);
     Hubs {
         rule,

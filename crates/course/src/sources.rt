@@ -11,7 +11,7 @@ use arrayvec::ArrayVec;
 fn sized(nodes: usize, arrows: usize) -> bool
     ensures { result ≡ sized_of nodes arrows }
 {
-    1 <= nodes && nodes <= SOURCE_NODES && arrows <= SOURCE_ARROWS
+    (1..=SOURCE_NODES).contains(&nodes) && arrows <= SOURCE_ARROWS
 }
 
 // Whether both ends of an arrow are among so many nodes.

@@ -1,18 +1,15 @@
-use Rattle.std.proofs.Common.{◌≡◌, ℕ, ◌+◌, ◌<◌, ◌≤◌, Bool, true, false, List, length, get_or, take, vec_items, vec_len, sym, refl, ap, ◌∙◌, subst, arith}
+use Rattle.std.proofs.Common.{◌≡◌, ◌<◌, ◌≤◌, Bool, true, false, List, get_or, vec_items, vec_len, sym, refl, ap, ◌∙◌, subst, arith}
 use Rattle.std.proofs.lemmas.List.{get_or_read, get_or-take, length-take-le}
-use Rattle.expression.specs.Admitted.{tree_of}
-use Rattle.expression.specs.Rules.{fits}
-use Rattle.course.specs.declared.environment.Environment.{Environment}
 use Rattle.course.specs.Forward.{only}
 use Rattle.course.specs.Reach.{lost}
 use Rattle.course.specs.Recursions.{members, hubs_at, Stands, Crosses}
-use Rattle.course.specs.View.{course_of, size, Bound}
-use Rattle.course.proofs.Maps.{bound_up, bound_deeper}
+use Rattle.course.specs.View.{course_of, size}
+use Rattle.course.proofs.Maps.{bound_up}
 use Rattle.course.proofs.Loops.{going_on, going_stops, going_ends}
 use Rattle.course.proofs.HubsIn.{hubs_add}
 use Rattle.course.proofs.Walks.{reached_root}
-use Rattle.course.proofs.Fits.{fits_edge, fits_union, fits_disjoint, fits_append, fits_mark, fits_out, fits_graph, fits_if, fits_recursion}
-use Rattle.course.proofs.Forms.{still_bound, evaluated, grows, whole, at_node, at_edge_exit, at_edge, at_union_left, at_union_right, at_union, at_mark_exit, at_mark, at_out, at_zero, at_disjoint_left, at_disjoint_right, at_disjoint, at_append_left, at_append_right, at_append_tie, at_append, at_graph, at_if_exit, at_if_same, at_if_other}
+use Rattle.course.proofs.Fits.{fits_edge, fits_union, fits_disjoint, fits_append, fits_mark, fits_graph, fits_if, fits_recursion}
+use Rattle.course.proofs.Forms.{still_bound, evaluated, whole, at_node, at_edge_exit, at_edge, at_union_left, at_union_right, at_union, at_mark_exit, at_mark, at_out, at_zero, at_disjoint_left, at_disjoint_right, at_disjoint, at_append_left, at_append_right, at_append_tie, at_append, at_graph, at_if_exit, at_if_same, at_if_other}
 use Rattle.course.proofs.Recurs.{body_frame, body_eval, body_link, body_tie, body_done, turn_past, turn_blank, turn_body, begins_kept, same_front, turn_kept, hubs_kept, crossing, hubs_there, taken_at, at_recursion_exit, at_recursion_hubs, at_recursion_turns, at_recursion}
 use Rattle.course.proofs.+evaluation.Goals as goal
 
@@ -242,9 +239,6 @@ evaluate::Evaluator::recur-returns t c =
     c.in_set.ensures n made (c.extent-after.ensures.arrows ∙ v.arrows.ok.0) taken c.in_map.ensures (hubs_there h r (size z) c.in_map.result c.in_map.ensures on stands (omega (arith, low, made.told.2, taken.run.told.2)))
 
 -- one arrow after the other
-pub recursion::Recursion::take_arrows-index-arrow-requires : goal.recursion::Recursion::take_arrows-index-arrow-requires
-recursion::Recursion::take_arrows-index-arrow-requires t c = omega (arith, c.loop-k.invariant.known, c.loop-k-test.true)
-
 pub recursion::Recursion::take_arrows-take_arrow-requires : goal.recursion::Recursion::take_arrows-take_arrow-requires
 recursion::Recursion::take_arrows-take_arrow-requires t c =
     let w = c.args.work.now in
@@ -320,12 +314,6 @@ recursion::Recursion::take_arrow-link_hubs-requires-clause-heads t c =
     let on : get_or (members h) a.tail false ≡ true = get_or-take h.first h.marks a.tail false c.requires.crosses.tail ∙ c.if-not-hubs-arrow.false in
     hubs_there h a.head (size c.args.work.now) (hubs_at h a.head) refl (c.requires.crosses.closed on) c.requires.stands (omega (arith, c.requires.bound 0))
 
-pub recursion::Recursion::take_arrow-run_body-requires : goal.recursion::Recursion::take_arrow-run_body-requires
-recursion::Recursion::take_arrow-run_body-requires t c =
-    let h = c.args.self.now.hubs.now in
-    let a = c.args.arrow in
-    (omega arith, (c.requires.bound, (c.requires.stands, (c.requires.crosses, get_or-take h.first h.marks a.tail false c.requires.crosses.tail ∙ c.if-not-hubs-arrow.false))))
-
 pub recursion::Recursion::take_arrow-returns-then-is_blank : goal.recursion::Recursion::take_arrow-returns-then-is_blank
 recursion::Recursion::take_arrow-returns-then-is_blank t c =
     let h = c.args.self.now.hubs.now in
@@ -341,23 +329,6 @@ recursion::Recursion::take_arrow-returns-else-is_blank t c =
 -- the body
 pub recursion::Recursion::run_body-returns-in_err-frame : goal.recursion::Recursion::run_body-returns-in_err-frame
 recursion::Recursion::run_body-returns-in_err-frame t c = body_frame c.args.self.now.hubs.now c.args.k c.args.arrow c.from_residual.result c.in_err-frame.ensures c.from_residual.ensures.1
-
-pub recursion::Recursion::run_body-evaluate-requires : goal.recursion::Recursion::run_body-evaluate-requires
-recursion::Recursion::run_body-evaluate-requires t c =
-    let w = c.args.work.now in
-    let u = c.add_frame.new.self in
-    let around = c.args.self.now.around.now in
-    let a = c.args.arrow in
-    let e = c.deeper.ensures in
-    let tree = tree_of around.expression.now c.args.self.now.body in
-    let more = c.in_ok-frame.ensures.told.2 in (
-      omega arith,
-      (
-        ap (λ (x : Environment). fits around.expression.now.constants x.level tree) e ∙ c.args.self.now.fitting,
-        subst (λ (x : Environment). Bound x (size u)) (sym e)
-            (bound_deeper (size u) around.env a.origin a.head (omega (arith, c.requires.crosses.head, c.requires.stands, more)) (bound_up (size w) (size u) around.env more c.requires.bound)),
-      ),
-    )
 
 pub recursion::Recursion::run_body-returns-in_err-into : goal.recursion::Recursion::run_body-returns-in_err-into
 recursion::Recursion::run_body-returns-in_err-into t c =

@@ -1,5 +1,5 @@
-use Rattle.std.proofs.Common.{◌≡◌, ◌+◌, ◌<◌, ◌≤◌, false, ◌≢◌, length, get_or, take, sym, ap, ◌∙◌, arith, rules, below_more}
-use Rattle.std.proofs.lemmas.List.{get_or-set_same, get_or-set_other, take_all}
+use Rattle.std.proofs.Common.{◌≡◌, ◌+◌, ◌<◌, false, ◌≢◌, length, get_or, take, sym, ap, ◌∙◌, arith, rules, below_more}
+use Rattle.std.proofs.lemmas.List.{get_or-set_same, get_or-set_other}
 use Rattle.walks.specs.Reach.{trues}
 use Rattle.course.proofs.Ranks.{counted, trues_more, trues_none, trues_taken}
 use Rattle.course.proofs.hubs.rank.Goals as goal
@@ -21,11 +21,3 @@ loop-v-preserved c =
           (λ k h. let ne : k ≢ c.loop-v.v = omega arith in get_or-set_other c.loop-v.ranks c.loop-v.v k c.loop-v.count 0 ne ∙ c.loop-v.invariant.1 k h)
           (get_or-set_same c.loop-v.ranks c.loop-v.v c.loop-v.count 0 lt ∙ c.loop-v.invariant.0),
     )
-
-pub returns : goal.returns
-returns c =
-    let le : length c.args.flags.now ≤ c.loop-v.v = search rules in
-    record {
-      all = c.loop-v.invariant.0 ∙ ap trues (take_all c.loop-v.v c.args.flags.now le);
-      each = λ v h. c.loop-v.invariant.1 v (omega (arith, le, h));
-    }

@@ -2,7 +2,6 @@ use Rattle.std.proofs.Common.{◌≡◌, ℕ, ◌+◌, ◌<◌, List, [], length
 use Rattle.std.proofs.lemmas.List.{get_or-take, length-take-le}
 use Rattle.course.specs.declared.course.Origin.TheVariants.{Source}
 use Rattle.course.specs.Course.{Course, link}
-use Rattle.course.specs.Ends.{joins}
 use Rattle.course.specs.Opening.{source_nodes}
 use Rattle.course.specs.View.{course_of, with_arrow, with_arrows}
 use Rattle.course.proofs.Ends.{inside_at, joined_ends}

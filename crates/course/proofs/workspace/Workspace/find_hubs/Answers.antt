@@ -1,11 +1,8 @@
-use Rattle.std.proofs.Common.{take, vec_items, vec_len, ap, ◌∙◌, arith}
+use Rattle.std.proofs.Common.{take, vec_items, vec_len, ap, ◌∙◌}
 use Rattle.walks.specs.Reach.{lead}
 use Rattle.course.specs.Reach.{reached}
 use Rattle.course.proofs.Walks.{reached_front}
 use Rattle.course.proofs.workspace.Workspace.find_hubs.Goals as goal
-
-pub number_hubs-requires : goal.number_hubs-requires
-number_hubs-requires c = omega (arith, c.requires.1, c.args.self.now.nodes_within)
 
 pub returns : goal.returns
 unfolding reached

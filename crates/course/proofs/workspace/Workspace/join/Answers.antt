@@ -1,4 +1,4 @@
-use Rattle.std.proofs.Common.{◌≡◌, ℕ, ◌≤◌, ◌≢◌, true, length, get_or, sym, refl, ◌∙◌, arith, length-set, rules}
+use Rattle.std.proofs.Common.{◌≡◌, ◌≢◌, true, length, sym, refl, ◌∙◌, arith, length-set, rules}
 use Rattle.std.proofs.lemmas.List.{get_or-set_other}
 use Rattle.course.specs.Forward.{joint}
 use Rattle.course.specs.View.{course_of, size}
@@ -15,16 +15,6 @@ loop-marker-init c =
       within = empty_within (size c.args.self.now) (omega (arith, c.requires.left 0));
       long = refl;
       rest = search rules;
-    }
-
-pub join_one-requires : goal.join_one-requires
-join_one-requires c =
-    let w = c.args.self.now in
-    let v = c.loop-marker.self in
-    record {
-      marker = search rules;
-      left = wider (size w) (size v) c.args.left c.loop-marker.invariant.grows c.requires.left;
-      right = wider (size w) (size v) c.args.right c.loop-marker.invariant.grows c.requires.right;
     }
 
 pub returns-in_err-into : goal.returns-in_err-into

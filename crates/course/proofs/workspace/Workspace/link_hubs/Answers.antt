@@ -1,4 +1,4 @@
-use Rattle.std.proofs.Common.{◌≡◌, ℕ, ◌<◌, false, true, length, get_or, refl, arith}
+use Rattle.std.proofs.Common.{◌≡◌, ℕ, ◌<◌, false, true, get_or, refl, arith}
 use Rattle.course.specs.declared.hub_table.Hubs.{Hubs}
 use Rattle.course.specs.Hubs.{hub}
 use Rattle.course.specs.Recursions.{members, hubs_at}

@@ -1,8 +1,8 @@
-use Rattle.std.proofs.Common.{◌≡◌, ◌<◌, length, vec_items, vec_len, ap, ◌∙◌, sym, arith}
+use Rattle.std.proofs.Common.{◌<◌, length, vec_items, vec_len, ap, arith}
 use Rattle.course.specs.declared.environment.Out.{Out}
 use Rattle.course.specs.Outs.{no_out}
 use Rattle.course.specs.Forward.{out}
-use Rattle.course.specs.View.{course_of, size}
+use Rattle.course.specs.View.{course_of}
 use Rattle.course.proofs.Pushes.{every_push}
 use Rattle.course.proofs.HubsIn.{plain_adds}
 use Rattle.course.proofs.workspace.Workspace.open_node.Goals as goal

@@ -1,21 +1,8 @@
-use Rattle.std.proofs.Common.{◌<◌, length, get_or, vec_items, vec_len, ap, ◌∙◌, arith, rules}
-use Rattle.std.proofs.lemmas.List.{get_or_read}
-use Rattle.course.specs.Outs.{no_out}
+use Rattle.std.proofs.Common.{get_or, ap, ◌∙◌, arith, rules}
 use Rattle.course.specs.Forward.{tie}
-use Rattle.course.specs.View.{stack, size}
-use Rattle.course.proofs.Maps.{goes_exit, each_more, each_stops, each_none, wider}
+use Rattle.course.specs.View.{stack}
+use Rattle.course.proofs.Maps.{goes_exit, each_more, each_stops, each_none}
 use Rattle.course.proofs.workspace.Workspace.tie_outs.Goals as goal
-
-pub tie_out-requires : goal.tie_out-requires
-tie_out-requires c =
-    let w = c.loop-i.self in
-    let len : c.loop-i.i < vec_len w.outs = omega (arith, ap length c.loop-i.invariant.1, w.outs.ok.0, c.args.self.now.outs.ok.0, c.requires.end) in
-    let e = get_or_read (vec_items w.outs) c.loop-i.i c.index-out.result.now (omega (arith, w.outs.ok.0)) c.index-out.ensures no_out in
-    record {
-      marker = omega (arith, ap (λ o. o.marker) e, w.out_markers c.loop-i.i len);
-      node = omega (arith, ap (λ o. o.node) e, w.out_nodes c.loop-i.i len);
-      into = wider (size c.args.self.now) (size w) c.args.into c.loop-i.invariant.2 c.requires.into;
-    }
 
 pub returns-in_err-tie_out : goal.returns-in_err-tie_out
 returns-in_err-tie_out c =
