@@ -1,35 +1,12 @@
 -- Rows that are added one by one, arrow by arrow and node by node, are all the rows. Assumes nothing.
-use Rattle.std.proofs.Common.{◌≡◌, ℕ, suc, ◌+◌, ◌-◌, ◌<◌, ◌≤◌, Bool, true, false, List, [], ◌∷◌, ◌++◌, map, length, get_or, drop, filter, sym, ap, ◌∙◌, arith}
+use Rattle.std.proofs.Common.{◌≡◌, ℕ, suc, ◌+◌, ◌-◌, ◌<◌, ◌≤◌, Bool, true, false, List, ◌∷◌, ◌++◌, length, get_or, filter, sym, ap, ◌∙◌, arith}
 use Rattle.std.specs.List.{flat_map}
-use Rattle.std.proofs.lemmas.List.{at_drop_more, at_drop_all, append_assoc, append-nil, length-append}
+use Rattle.std.proofs.lemmas.List.{append_assoc, append-nil, length-append}
 use Rattle.std.proofs.lemmas.Bool.{cond-true, cond-false}
 use Rattle.course.specs.declared.course.Arrow.{Arrow}
 use Rattle.walks.specs.Reach.{from}
 use Rattle.rows.specs.declared.row.Row.{Row}
-use Rattle.rows.specs.Heads.{leads_by, rows_by}
-use Rattle.rows.specs.Links.{none}
-use Rattle.rows.specs.Rows.{row_of, rows_at}
-
--- one more row, where the first of what is left is the row
-pub one_more : (xs ys rest all : List Row) (x : Row) (left : List Row) → left ≡ x ∷ rest → ys ≡ xs ++ x ∷ [] → xs ++ left ≡ all → ys ++ rest ≡ all
-one_more xs ys rest all x left e q h =
-    ap (λ (l : List Row). l ++ rest) q ∙ append_assoc xs (x ∷ []) rest ∙ sym (ap (λ (l : List Row). xs ++ l) e) ∙ h
-
--- where a row is left and there are 1,024, there are more than 1,024 in all
-pub over : (xs rest all : List Row) (x : Row) (left : List Row) → left ≡ x ∷ rest → length xs ≡ 1024 → xs ++ left ≡ all → 1024 < length all
-over xs rest all x left e l h = omega (arith, l, ap length (sym h) ∙ length-append xs left, ap length e)
-
-module _ (near : List Bool) (u : ℕ) (arrows : List Arrow) where
-  pub row_left : (k : ℕ) → k < length arrows → leads_by near (get_or arrows k none) ≡ true → rows_by near u (drop k arrows) ≡ row_of u (get_or arrows k none) ∷ rows_by near u (drop (k + 1) arrows)
-  row_left k l y =
-      at_drop_more (rows_by near u) arrows k none l ∙ ap (map (row_of u)) (cond-true (leads_by near (get_or arrows k none)) _ _ y)
-
-  pub none_left : (k : ℕ) → k < length arrows → leads_by near (get_or arrows k none) ≡ false → rows_by near u (drop k arrows) ≡ rows_by near u (drop (k + 1) arrows)
-  none_left k l y =
-      at_drop_more (rows_by near u) arrows k none l ∙ ap (map (row_of u)) (cond-false (leads_by near (get_or arrows k none)) _ _ y)
-
-  pub rows_all : (k : ℕ) (xs all : List Row) → length arrows ≤ k → xs ++ rows_by near u (drop k arrows) ≡ all → xs ≡ all
-  rows_all k xs all l h = sym (append-nil xs) ∙ sym (ap (λ (r : List Row). xs ++ r) (at_drop_all (rows_by near u) arrows k l)) ∙ h
+use Rattle.rows.specs.Rows.{rows_at}
 
 -- the rows of the marked ones of n nodes, from the node i on
 abbrev pub rows_from : List Arrow → List Bool → ℕ → ℕ → List Row

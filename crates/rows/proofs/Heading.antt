@@ -8,7 +8,7 @@ use Rattle.course.specs.declared.course.Arrow.{Arrow}
 use Rattle.course.specs.Course.{is_blank_origin}
 use Rattle.walks.specs.Reach.{In, among, from, lead, Inside}
 use Rattle.walks.specs.Visits.{Visiting, visit_one, visit_each}
-use Rattle.walks.proofs.Members.{in_map, of_map, in_joined, of_joined, of_kept, in_from, of_from, place_of}
+use Rattle.walks.proofs.Members.{in_map, of_map, in_joined, of_joined, of_kept, in_from, place_of}
 use Rattle.walks.proofs.Reaching.{exact, reached_from}
 use Rattle.walks.proofs.Walking.{lead_at}
 use Rattle.course.specs.Reach.{ends}
@@ -38,16 +38,19 @@ kept_alike p q [] h = refl
 kept_alike p q (x ∷ xs) h =
     ap (λ b. cond b (x ∷ filter p xs) (filter p xs)) h.0 ∙ ap (λ (l : List _). cond (q x) (x ∷ l) l) (kept_alike p q xs h.1)
 
--- both ends of every blank arrow are below 1,024
-pub blanks_inside : (arrows : List Arrow) → Fit arrows → Inside 1024 (map ends (blanks arrows))
+-- both ends of an arrow are below 1,024
+ends_below : (arrows : List Arrow) (a : Arrow) → Fit arrows → In a arrows → (a.tail < 1024) × (a.head < 1024)
+ends_below arrows a f i =
+    let k = place_of a arrows none i in
+    (subst (λ (x : Arrow). x.tail < 1024) k.2 (f.tails k.0 k.1), subst (λ (x : Arrow). x.head < 1024) k.2 (f.heads k.0 k.1))
+
+blanks_inside : (arrows : List Arrow) → Fit arrows → Inside 1024 (map ends (blanks arrows))
 blanks_inside arrows f =
     record {
       ends = λ v w i.
           let a = of_map ends (v, w) (blanks arrows) i in
-          let k = place_of a.0 arrows none (of_kept (λ (x : Arrow). is_blank_origin x.origin) a.0 arrows a.1).0 in (
-            subst (λ (x : ℕ). x < 1024) (sym (ap (λ (x : ℕ × ℕ). x.0) a.2)) (subst (λ (x : Arrow). x.tail < 1024) k.2 (f.tails k.0 k.1)),
-            subst (λ (x : ℕ). x < 1024) (sym (ap (λ (x : ℕ × ℕ). x.1) a.2)) (subst (λ (x : Arrow). x.head < 1024) k.2 (f.heads k.0 k.1)),
-          );
+          let l = ends_below arrows a.0 f (of_kept (λ (x : Arrow). is_blank_origin x.origin) a.0 arrows a.1).0 in
+          (omega (arith, l.0, ap (λ (x : ℕ × ℕ). x.0) a.2), omega (arith, l.1, ap (λ (x : ℕ × ℕ). x.1) a.2));
     }
 
 leads_alike : (arrows : List Arrow) (v : ℕ) (a : Arrow) → a.tail < 1024 → leads_by (lead 1024 (map ends (blanks arrows)) v) a ≡ leads (near arrows v) a
@@ -71,17 +74,18 @@ map_map : {X Y Z : Type 0} (f : X → Y) (g : Y → Z) (xs : List X) → map g (
 map_map f g [] = refl
 map_map f g (x ∷ xs) = ap (λ l. g (f x) ∷ l) (map_map f g xs)
 
--- a row is of a node below 1,024
-row_below : (arrows : List Arrow) (v : ℕ) (r : Row) → Fit arrows → In r (rows_at arrows v) → v < 1024
+-- a row is that of an arrow, and of a node below 1,024
+row_below : (arrows : List Arrow) (v : ℕ) (r : Row) → Fit arrows → In r (rows_at arrows v) → (v < 1024) × (r.head < 1024)
 unfolding rows_at
 row_below arrows v r f i =
     let a = of_map (row_of v) r (filter (leads (near arrows v)) arrows) i in
     let k = of_kept (leads (near arrows v)) a.0 arrows a.1 in
-    let p = place_of a.0 arrows none k.0 in
-    let tail : a.0.tail < 1024 = subst (λ (x : Arrow). x.tail < 1024) p.2 (f.tails p.0 p.1) in
-    ⊎_elim (λ e. subst (λ (x : ℕ). x < 1024) e tail) (λ l. l)
-    (reached_from 1024 (map ends (blanks arrows)) v a.0.tail (blanks_inside arrows f)
-    ((exact (map ends (blanks arrows)) v a.0.tail).0 (and_parts (not (is_blank_origin a.0.origin)) (among a.0.tail (near arrows v)) k.1).1))
+    let l = ends_below arrows a.0 f k.0 in (
+      ⊎_elim (λ e. subst (λ (x : ℕ). x < 1024) e l.0) (λ z. z)
+          (reached_from 1024 (map ends (blanks arrows)) v a.0.tail (blanks_inside arrows f)
+          ((exact (map ends (blanks arrows)) v a.0.tail).0 (and_parts (not (is_blank_origin a.0.origin)) (among a.0.tail (near arrows v)) k.1).1)),
+      omega (arith, l.1, ap (λ (x : Row). x.head) a.2),
+    )
 
 -- the heads of the arrows that lead on from v are exactly what the rows of v lead to
 module _ (arrows : List Arrow) (v : ℕ) (m : List Bool) (f : Fit arrows) (e : m ≡ lead 1024 (map ends (blanks arrows)) v) where
@@ -100,7 +104,7 @@ module _ (arrows : List Arrow) (v : ℕ) (m : List Bool) (f : Fit arrows) (e : m
   heads_of : (w : ℕ) → In w (heads_by m arrows) → In (v, w) (steps arrows 1024)
   heads_of w i =
       let p = of_map (λ (r : Row). r.head) w (rows_at arrows v) (subst (λ (l : List ℕ). In w l) heads_of_rows i) in
-      let l = row_below arrows v p.0 f p.1 in
+      let l = (row_below arrows v p.0 f p.1).0 in
       let j = in_map step p.0 (flat_map (rows_at arrows) (from 0 1024)) (in_joined (rows_at arrows) v p.0 (from 0 1024) (in_from 0 1024 v (omega arith) (omega arith)) p.1) in
       subst (λ (x : ℕ). In (x, w) (steps arrows 1024)) (row_node arrows v p.0 p.1) (subst (λ (x : ℕ). In (p.0.node, x) (steps arrows 1024)) (sym p.2) j)
 
@@ -109,14 +113,11 @@ module _ (arrows : List Arrow) (v : ℕ) (m : List Bool) (f : Fit arrows) (e : m
 
 -- both ends of every step are below 1,024
 pub steps_inside : (arrows : List Arrow) → Fit arrows → Inside 1024 (steps arrows 1024)
-unfolding rows_at
 steps_inside arrows f =
     record {
       ends = λ v w i.
           let p = of_map step (v, w) (flat_map (rows_at arrows) (from 0 1024)) i in
           let q = of_joined (rows_at arrows) p.0 (from 0 1024) p.1 in
-          let a = of_map (row_of q.0) p.0 (filter (leads (near arrows q.0)) arrows) q.2 in
-          let k = place_of a.0 arrows none (of_kept (leads (near arrows q.0)) a.0 arrows a.1).0 in
-          let head : a.0.head < 1024 = subst (λ (x : Arrow). x.head < 1024) k.2 (f.heads k.0 k.1) in
-          (omega (arith, (of_from 0 1024 q.0 q.1).1, ap (λ (x : ℕ × ℕ). x.0) p.2, ap (λ (r : Row). r.node) a.2), omega (arith, head, ap (λ (x : ℕ × ℕ). x.1) p.2, ap (λ (r : Row). r.head) a.2));
+          let l = row_below arrows q.0 p.0 f q.2 in
+          (omega (arith, l.0, row_node arrows q.0 p.0 q.2, ap (λ (x : ℕ × ℕ). x.0) p.2), omega (arith, l.1, ap (λ (x : ℕ × ℕ). x.1) p.2));
     }

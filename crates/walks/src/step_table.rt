@@ -10,19 +10,20 @@ use std::alloc::{AllocError, Global};
 // How many steps a table has room for.
 pub const STEPS: usize = 2048;
 
-// A step, and the number of the latest step before it with the same tail.
+// A step, and the number of the latest step before it with the same tail. The numbers are narrow, so
+// that a step fills one word: a walk reads one for each step.
 #[derive(Clone, Copy)]
 struct Step {
-    tail: usize,
-    head: usize,
-    before: Option<usize>,
+    tail: u16,
+    head: u16,
+    before: Option<u16>,
 }
 
 // Steps between nodes that have a mark, in memory that is taken once, with the number of the latest
 // step that leaves each node.
 #[derive(Drop)]
 pub struct StepTable {
-    latest: [Option<usize>; 1024],
+    latest: [Option<u16>; 1024],
     steps: Vec<Step>,
     ghost room: { 2048 ≤ vec_capacity steps },
     ghost few: { vec_len steps ≤ 2048 },
@@ -62,8 +63,12 @@ impl StepTable {
         let number = self.steps.len();
         if number < STEPS && tail < NODES && head < NODES {
             let before = self.latest[tail];
-            self.latest[tail] = Some(number);
-            self.steps.push_reserved(Step { tail, head, before });
+            self.latest[tail] = Some(number as u16);
+            self.steps.push_reserved(Step {
+                tail: tail as u16,
+                head: head as u16,
+                before,
+            });
             true
         } else {
             false
@@ -80,8 +85,8 @@ impl Steps for StepTable {
     fn visit_heads(&self, node: usize, visits: &mut Visits) {
         let mut at = self.latest.get(node).copied().flatten();
         while let Some(number) = at {
-            let step = self.steps[number];
-            visits.visit(step.head);
+            let step = self.steps[usize::from(number)];
+            visits.visit(usize::from(step.head));
             at = step.before;
         }
     }

@@ -9,11 +9,12 @@ use arrayvec::ArrayVec;
 pub const NODES: usize = 1024;
 
 // A mark for each node, and the marked nodes that are still to be visited. There is room for all of
-// them, since each was marked when it was listed.
+// them, since each was marked when it was listed. Their numbers are narrow, since a walk begins by
+// writing the whole list's memory.
 #[derive(Drop)]
 pub struct Visits {
     marks: [bool; 1024],
-    todo: ArrayVec<usize, 1024>,
+    todo: ArrayVec<u16, 1024>,
     ghost few: { array_vec_len todo ≤ trues marks },
 }
 
@@ -36,7 +37,7 @@ impl Visits {
     {
         if node < NODES && !self.marks[node] {
             self.marks[node] = true;
-            self.todo.push(node);
+            self.todo.push(node as u16);
         }
     }
 
@@ -44,7 +45,7 @@ impl Visits {
     pub fn take_next(&mut self) -> Option<usize>
         ensures { Takes (visiting self.old) (visiting self.new) result }
     {
-        self.todo.pop()
+        self.todo.pop().map(usize::from)
     }
 
     // The marks.

@@ -37,8 +37,9 @@ loop-at-smaller c =
     let x = c.index-step.result.now in
     let f = c.loop-at.invariant in
     let l = step_within xs c.args.node c.loop-at.at x.before k (visiting c.loop-at.visits) (visiting c.args.visits.now) c.in-Some.is f in
+    let q : x ≡ get_or xs k x = cc in
     turn_less xs c.args.node c.loop-at.at x.before k (visiting c.loop-at.visits) (visiting c.args.visits.now) c.in-Some.is f
-    (before_is xs (vec_len t.steps) k x t.steps.ok.0 l c.index-step.ensures t.before_out)
+    (before_is xs (vec_len t.steps) k x t.steps.ok.0 l q t.before_out)
 
 pub loop-at-preserved : goal.loop-at-preserved
 loop-at-preserved c =
@@ -48,9 +49,11 @@ loop-at-preserved c =
     let x = c.index-step.result.now in
     let f = c.loop-at.invariant in
     let l = step_within xs c.args.node c.loop-at.at x.before k (visiting c.loop-at.visits) (visiting c.args.visits.now) c.in-Some.is f in
+    let q : x ≡ get_or xs k x = cc in
+    let h : c.from-in-Some.result ≡ x.head = cc in
     turn xs c.args.node c.loop-at.at x.before k (visiting c.loop-at.visits) (visiting c.args.visits.now) c.in-Some.is f (visiting c.visit.new.self)
-    (before_is xs (vec_len t.steps) k x t.steps.ok.0 l c.index-step.ensures t.before_out)
-    (c.visit.ensures ∙ ap (λ (s : Step). visit_one s.head (visiting c.loop-at.visits)) (is_step xs (vec_len t.steps) k x t.steps.ok.0 l c.index-step.ensures))
+    (before_is xs (vec_len t.steps) k x t.steps.ok.0 l q t.before_out)
+    (c.visit.ensures ∙ ap (λ n. visit_one n (visiting c.loop-at.visits)) h ∙ ap (λ (s : Step). visit_one s.head (visiting c.loop-at.visits)) (is_step xs (vec_len t.steps) k x t.steps.ok.0 l q))
 
 pub returns : goal.returns
 returns c =
