@@ -6,6 +6,7 @@ pub mod Hubs
 pub mod Labels
 pub mod Opening
 pub mod Outs
+pub mod Printed
 pub mod Reach
 pub mod Recursions
 pub mod Sources

@@ -23,7 +23,7 @@ pub struct Turn {
 }
 
 // A refusal, with what it names.
-#[derive(Clone, Copy)]
+#[derive(Clone, Copy, Debug, PartialEq, Eq)]
 pub enum Refusal {
     // a table handed in is too short
     ShortTable,

@@ -4,7 +4,7 @@ use course::course::{Arrow, Comparison, Frame, Node, Origin};
 use rows::row::Row;
 
 // What is asked of a bench. Mark, trial, commit and abandon are asked with a slip.
-#[derive(Clone, Copy)]
+#[derive(Clone, Copy, Debug, PartialEq, Eq)]
 pub enum Request<L> {
     // to open a draft
     Begin,
@@ -40,7 +40,7 @@ pub enum Request<L> {
 }
 
 // An edit of a draft: the row, its origin and the label asked.
-#[derive(Clone, Copy)]
+#[derive(Clone, Copy, Debug, PartialEq, Eq)]
 pub struct Edit<L> {
     pub row: usize,
     pub origin: Origin,
@@ -66,7 +66,7 @@ pub struct Commits {
 }
 
 // What a bench answers.
-#[derive(Clone, Copy)]
+#[derive(Clone, Copy, Debug, PartialEq, Eq)]
 pub enum Answer<L> {
     // begin: a slip of this number
     Begun(u32),

@@ -1,10 +1,13 @@
 // A row of the view.
+ghost use Rattle.std.specs.Prelude.{Some as Prints};
+ghost use Rattle.rows.specs.Printed.{row_text};
+
 use course::course::Origin;
 use std::fmt;
 
 // A shown node with an arrow that leads on from it: the node, the arrow's head, and the arrow's
 // origin, place and frame.
-#[derive(Clone, Copy)]
+#[derive(Clone, Copy, Debug, PartialEq, Eq)]
 pub struct Row {
     pub node: usize,
     pub head: usize,
@@ -14,6 +17,8 @@ pub struct Row {
 }
 
 impl fmt::Display for Row {
+    ghost output = { λ row. Prints (row_text row) };
+
     fn fmt<W: fmt::Write>(&self, f: &mut fmt::Formatter<W>) -> fmt::Result {
         write!(
             f,

@@ -5,7 +5,6 @@ ghost use Rattle.rows.specs.Heads.{leads_by};
 ghost use Rattle.rows.specs.Links.{Fit, Linked};
 ghost use Rattle.rows.specs.Rows.{steps as steps_shown};
 
-use crate::blanks::is_blank;
 use course::course::Arrow;
 use walks::step_table::StepTable;
 use walks::steps::Steps;
@@ -27,7 +26,7 @@ pub(crate) struct Showing<'a> {
 pub(crate) fn leads(arrow: Arrow, near: &[bool; 1024]) -> bool
     ensures { result ≡ leads_by near.now arrow }
 {
-    !is_blank(arrow.origin) && near.get(arrow.tail) == Some(&true)
+    !arrow.origin.is_blank() && near.get(arrow.tail) == Some(&true)
 }
 
 impl Steps for Showing<'_> {

@@ -19,11 +19,8 @@ use Rattle.view.specs.declared.fault.ViewFault.{ViewFault}
 use Rattle.view.specs.declared.fault.ViewFault.TheVariants.{ShortTable}
 use Rattle.view.specs.View.{Picture, pictured, long, showing, Answered}
 
-pub arrow_count : (s : SourceOf) → length (graph_of s).arrows ≡ s.count
-arrow_count s = length-take-le s.count s.arrows (omega (arith, s.long, s.few_arrows))
-
 pub sound : (s : SourceOf) → Sound (graph_of s)
-sound s = record { some = s.some; few_nodes = s.few_nodes; few_arrows = omega (arith, arrow_count s, s.few_arrows); ends = s.ends }
+sound s = record { some = s.some; few_nodes = s.few_nodes; few_arrows = s.few_arrows; ends = s.ends }
 
 nth_take : {X : Type 0} (n : ℕ) (xs : List X) (k : ℕ) → k < n → slice_get (take n xs) k ≡ slice_get xs k
 nth_take zero xs k h = absurd (omega arith)

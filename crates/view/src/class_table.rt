@@ -1,7 +1,7 @@
 // The class numbers of a source's labels and an expression's constants.
-ghost use Rattle.std.specs.Prelude.{◌≡◌, ◌≤◌, map, length};
+ghost use Rattle.std.specs.Prelude.{◌≡◌, ◌≤◌, map, length, MatchOption};
 ghost use Rattle.laws.specs.Labelling.{Tells};
-ghost use Rattle.view.specs.Numbers.{Numbered, AllNumbered};
+ghost use Rattle.view.specs.Numbers.{Nowhere, Numbered, AllNumbered};
 
 use course::classes::Classes;
 use course::source::SOURCE_ARROWS;
@@ -19,17 +19,16 @@ pub(crate) struct LabelTables<'a, L> {
 
 impl<'a, L: Label> LabelTables<'a, L> {
     // The class number of a label: the lowest source arrow that has the same label, or else 256 and
-    // the lowest constant that is the same; 0 for a label that stands in neither table.
-    fn class_of(&self, label: &L) -> u16
-        ensures { Numbered (map L.meaning self.now.labels.now) (map L.meaning self.now.constants.now) (L.meaning label.now) result }
+    // the lowest constant that is the same; none for a label that stands in neither table.
+    fn class_of(&self, label: &L) -> Option<u16>
+        ensures { MatchOption result (Nowhere (map L.meaning self.now.labels.now) (map L.meaning self.now.constants.now) (L.meaning label.now))
+            (Numbered (map L.meaning self.now.labels.now) (map L.meaning self.now.constants.now) (L.meaning label.now)) }
     {
         if let Some(arrow) = lowest_same(self.labels, label) {
-            return arrow as u16;
+            return Some(arrow as u16);
         }
-        match lowest_same(self.constants, label) {
-            Some(constant) => (SOURCE_ARROWS + constant) as u16,
-            None => 0,
-        }
+        let constant = lowest_same(self.constants, label)?;
+        Some((SOURCE_ARROWS + constant) as u16)
     }
 
     // Writes the class number of each of some labels.
@@ -38,7 +37,9 @@ impl<'a, L: Label> LabelTables<'a, L> {
         ensures { AllNumbered L.meaning self.now.labels.now self.now.constants.now of.now classes.new }
     {
         for (k, label) in of.iter().enumerate() {
-            classes[k] = self.class_of(label);
+            if let Some(class) = self.class_of(label) {
+                classes[k] = class;
+            }
         }
     }
 

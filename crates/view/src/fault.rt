@@ -1,6 +1,6 @@
 // Why a view is refused.
-ghost use Rattle.std.specs.Prelude.{◌≡◌};
-ghost use Rattle.view.specs.Faults.{told};
+ghost use Rattle.std.specs.Prelude.{◌≡◌, Some as Prints};
+ghost use Rattle.view.specs.Faults.{told, printed};
 
 use course::course::Full;
 use std::fmt;
@@ -41,11 +41,13 @@ impl ViewFault {
 
 // The refusal's number, and the entry that it names.
 impl fmt::Display for ViewFault {
+    ghost output = { λ fault. Prints (printed fault) };
+
     fn fmt<W: fmt::Write>(&self, f: &mut fmt::Formatter<W>) -> fmt::Result {
-        match self {
-            ViewFault::ShortTable => write!(f, "10"),
-            ViewFault::Full(full) => write!(f, "18 {full}"),
-            ViewFault::TooManyRows => write!(f, "19"),
+        let number = self.number();
+        match self.entry() {
+            Some(entry) => write!(f, "{number} {entry}"),
+            None => write!(f, "{number}"),
         }
     }
 }

@@ -5,7 +5,7 @@ use Rattle.course.specs.Sources.{graph_of}
 use Rattle.laws.specs.Labelling.{by_label}
 use Rattle.view.specs.View.{seen, long, pictured}
 use Rattle.view.proofs.Keeping.{run_laws, label_laws}
-use Rattle.view.proofs.Showing.{arrow_count, short_told, too_short, shown_by_classes}
+use Rattle.view.proofs.Showing.{short_told, too_short, shown_by_classes}
 use Rattle.view.proofs.view.View.show.Goals as goal
 
 pub returns-then-labels-arrows : goal.returns-then-labels-arrows
@@ -26,7 +26,7 @@ pub invariant_of-tables : goal.invariant_of-tables
 invariant_of-tables g c =
     let source = c.args.source.now in
     record {
-      few_labels = omega (arith, length-take-le c.arrows-arrows.result c.args.labels.now c.if-labels-arrows.false, c.arrows-arrows.ensures, arrow_count source, source.few_arrows);
+      few_labels = omega (arith, length-take-le c.arrows-arrows.result c.args.labels.now c.if-labels-arrows.false, c.arrows-arrows.ensures, source.few_arrows);
       few_constants = omega (arith, length-take-le c.constants-fixed.result c.args.constants.now c.if-constants-fixed.false, c.constants-fixed.ensures.bound);
     }
 
