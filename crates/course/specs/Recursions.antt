@@ -5,6 +5,8 @@
 --   Numbers ..      h has the hubs of the recursion at the place p in the frame f, of the nodes s for the markers ms,
 --                   numbered from n on
 --   Stands h n      once there are n nodes, the hubs are among them
+--   Ready r n       once there are n nodes, the hubs of the recursion r and what the variables around it stand for are
+--                   among them
 --   Crosses h a     both ends of the arrow a are nodes that the flags tell of, and its head is in S where its tail is
 --   body_of cmp b env h k a    the run of the body b, in the environment env of the recursion, for the arrow a with the
 --                   number k
@@ -15,6 +17,7 @@ use Rattle.std.specs.Prelude.{◌≡◌, ℕ, ◌+◌, ◌*◌, ◌<◌, ◌≤�
 use Rattle.course.specs.declared.course.Arrow.{Arrow}
 use Rattle.course.specs.declared.course.Full.{Full}
 use Rattle.course.specs.declared.hub_table.Hubs.{Hubs}
+use Rattle.course.specs.declared.recursion.Recursion.{Recursion}
 use Rattle.course.specs.declared.workspace.Workspace.{Workspace}
 use Rattle.course.specs.declared.environment.Environment.{Environment}
 use Rattle.expression.specs.Forms.{Tree}
@@ -23,7 +26,7 @@ use Rattle.course.specs.Labels.{Compare}
 use Rattle.course.specs.Forward.{deeper, run_body, turn, eval}
 use Rattle.walks.specs.Reach.{trues}
 use Rattle.course.specs.Hubs.{hubs}
-use Rattle.course.specs.View.{course_of, Goes}
+use Rattle.course.specs.View.{course_of, Bound, Goes}
 
 abbrev pub members : Hubs → List Bool
 members h = take h.first h.marks
@@ -40,6 +43,9 @@ pub record Numbers (h : Hubs) (p f : ℕ) (ms : List Bool) (n : ℕ) (s : List B
 
 abbrev pub Stands : Hubs → ℕ → Type 0
 Stands h n = h.first + trues (members h) * trues h.set ≤ n
+
+abbrev pub Ready : Recursion → ℕ → Type 0
+Ready r n = Bound r.around.now.env n × Stands r.hubs.now n
 
 pub record Crosses (h : Hubs) (a : Arrow) : Type 0 where
   pub tail : a.tail < h.first

@@ -4,7 +4,6 @@ ghost use Rattle.expression.specs.Admitted.{tree_of};
 ghost use Rattle.course.specs.Evaluators.{Fitting};
 ghost use Rattle.course.specs.Labels.{by_class};
 ghost use Rattle.course.specs.Reach.{lost};
-ghost use Rattle.course.specs.View.{Bound};
 
 use crate::course::{Arrow, Full};
 use crate::evaluate::Evaluator;
@@ -23,13 +22,12 @@ pub struct Recursion<'a, 'b> {
 }
 
 impl<'a, 'b> Recursion<'a, 'b> {
-    ghost use Rattle.course.specs.Recursions.{members, Stands, Crosses, Bodies, Turns, Takes};
+    ghost use Rattle.course.specs.Recursions.{members, Ready, Crosses, Bodies, Turns, Takes};
 
     // What each of the first arrows does.
     #[cycle(evaluation)]
     pub(crate) fn take_arrows(&self, count: usize, work: &mut Workspace) -> Result<(), Full>
-        requires bound { Bound self.now.around.now.env (vec_len work.old.nodes) }
-        requires stands { Stands self.now.hubs.now (vec_len work.old.nodes) }
+        requires ready { Ready self.now (vec_len work.old.nodes) }
         requires known { count ≤ vec_len work.old.arrows }
         requires crosses { (k : ℕ) → k < count → Crosses self.now.hubs.now (slice_index_or work.old.arrows.items k lost) }
         ensures { let around = self.now.around.now in Takes (by_class around.classes.now) (tree_of around.expression.now self.now.body) around.env self.now.hubs.now (take count work.old.arrows.items) work.old work.new result }
@@ -46,8 +44,7 @@ impl<'a, 'b> Recursion<'a, 'b> {
     // it is blank, and else a run of the body.
     #[cycle(evaluation)]
     fn take_arrow(&self, k: usize, arrow: Arrow, work: &mut Workspace) -> Result<(), Full>
-        requires bound { Bound self.now.around.now.env (vec_len work.old.nodes) }
-        requires stands { Stands self.now.hubs.now (vec_len work.old.nodes) }
+        requires ready { Ready self.now (vec_len work.old.nodes) }
         requires crosses { Crosses self.now.hubs.now arrow }
         ensures { let around = self.now.around.now in Turns (by_class around.classes.now) (tree_of around.expression.now self.now.body) around.env self.now.hubs.now k arrow work.old work.new result }
     {
@@ -65,8 +62,7 @@ impl<'a, 'b> Recursion<'a, 'b> {
     // The body in a new frame, one level deeper, tied to the hubs of the arrow's ends.
     #[cycle(evaluation)]
     fn run_body(&self, k: usize, arrow: Arrow, work: &mut Workspace) -> Result<(), Full>
-        requires bound { Bound self.now.around.now.env (vec_len work.old.nodes) }
-        requires stands { Stands self.now.hubs.now (vec_len work.old.nodes) }
+        requires ready { Ready self.now (vec_len work.old.nodes) }
         requires crosses { Crosses self.now.hubs.now arrow }
         requires reached { slice_index_or (members self.now.hubs.now) arrow.tail false ≡ true }
         ensures { let around = self.now.around.now in Bodies (by_class around.classes.now) (tree_of around.expression.now self.now.body) around.env self.now.hubs.now k arrow work.old work.new result }

@@ -203,13 +203,13 @@ evaluate::Evaluator::recur-take_arrows-requires t c =
     let kept = begins_kept (vec_items v.arrows) (vec_items y.arrows) c.extent-after.result.arrows (hubs_kept h made) (omega (arith, c.extent-after.ensures.arrows, v.arrows.ok.0)) in (
       omega (arith, c.requires.low.0),
       (
-        bound_up (size w) (size y) c.args.self.now.env (omega (arith, c.in_ok-part.ensures.run.told.3, c.drop_outs.ensures.sizes, made.told.2)) c.requires.bound,
         (
+          bound_up (size w) (size y) c.args.self.now.env (omega (arith, c.in_ok-part.ensures.run.told.3, c.drop_outs.ensures.sizes, made.told.2)) c.requires.bound,
           omega (arith, n.first, more, v.nodes.ok.0, y.nodes.ok.0),
-          (
-            omega (arith, kept.1, y.arrows.ok.0),
-            λ k l. crossing v (get_or c.in_ok-part.part 0 0) h k (get_or (vec_items y.arrows) k lost) n (omega (arith, c.extent-after.ensures.arrows, l)) (same_front (vec_items y.arrows) (vec_items v.arrows) c.extent-after.result.arrows k lost l kept.0),
-          ),
+        ),
+        (
+          omega (arith, kept.1, y.arrows.ok.0),
+          λ k l. crossing v (get_or c.in_ok-part.part 0 0) h k (get_or (vec_items y.arrows) k lost) n (omega (arith, c.extent-after.ensures.arrows, l)) (same_front (vec_items y.arrows) (vec_items v.arrows) c.extent-after.result.arrows k lost l kept.0),
         ),
       ),
     )
@@ -250,11 +250,11 @@ recursion::Recursion::take_arrows-take_arrow-requires t c =
     let s = same_front (vec_items v.arrows) (vec_items w.arrows) c.args.count k lost lt i.same in (
       omega arith,
       (
-        bound_up (size w) (size v) c.args.self.now.around.now.env i.going.grows c.requires.bound,
         (
-          omega (arith, c.requires.stands, i.going.grows),
-          subst (λ a. Crosses c.args.self.now.hubs.now a) (sym (e ∙ s)) (c.requires.crosses k lt),
+          bound_up (size w) (size v) c.args.self.now.around.now.env i.going.grows c.requires.ready.0,
+          omega (arith, c.requires.ready.1, i.going.grows),
         ),
+        subst (λ a. Crosses c.args.self.now.hubs.now a) (sym (e ∙ s)) (c.requires.crosses k lt),
       ),
     )
 
@@ -305,14 +305,14 @@ recursion::Recursion::take_arrow-link_hubs-requires-clause-tails t c =
     let h = c.args.self.now.hubs.now in
     let a = c.args.arrow in
     let on : get_or (members h) a.tail false ≡ true = get_or-take h.first h.marks a.tail false c.requires.crosses.tail ∙ c.if-not-hubs-arrow.false in
-    hubs_there h a.tail (size c.args.work.now) (hubs_at h a.tail) refl on c.requires.stands (omega (arith, c.requires.bound 0))
+    hubs_there h a.tail (size c.args.work.now) (hubs_at h a.tail) refl on c.requires.ready.1 (omega (arith, c.requires.ready.0 0))
 
 pub recursion::Recursion::take_arrow-link_hubs-requires-clause-heads : goal.recursion::Recursion::take_arrow-link_hubs-requires-clause-heads
 recursion::Recursion::take_arrow-link_hubs-requires-clause-heads t c =
     let h = c.args.self.now.hubs.now in
     let a = c.args.arrow in
     let on : get_or (members h) a.tail false ≡ true = get_or-take h.first h.marks a.tail false c.requires.crosses.tail ∙ c.if-not-hubs-arrow.false in
-    hubs_there h a.head (size c.args.work.now) (hubs_at h a.head) refl (c.requires.crosses.closed on) c.requires.stands (omega (arith, c.requires.bound 0))
+    hubs_there h a.head (size c.args.work.now) (hubs_at h a.head) refl (c.requires.crosses.closed on) c.requires.ready.1 (omega (arith, c.requires.ready.0 0))
 
 pub recursion::Recursion::take_arrow-returns-then-is_blank : goal.recursion::Recursion::take_arrow-returns-then-is_blank
 recursion::Recursion::take_arrow-returns-then-is_blank t c =
@@ -338,7 +338,7 @@ pub recursion::Recursion::run_body-link_all-requires-clause-tails : goal.recursi
 recursion::Recursion::run_body-link_all-requires-clause-tails t c =
     let v = c.evaluate.new.work in
     let more : size c.args.work.now ≤ size v = omega (arith, c.in_ok-frame.ensures.told.2, c.in_ok-into.ensures.run.told.3) in
-    hubs_there c.args.self.now.hubs.now c.args.arrow.tail (size v) c.in_map.result c.in_map.ensures c.requires.reached (omega (arith, c.requires.stands, more)) (omega (arith, c.requires.bound 0, more))
+    hubs_there c.args.self.now.hubs.now c.args.arrow.tail (size v) c.in_map.result c.in_map.ensures c.requires.reached (omega (arith, c.requires.ready.1, more)) (omega (arith, c.requires.ready.0 0, more))
 
 pub recursion::Recursion::run_body-returns-in_err-link_all : goal.recursion::Recursion::run_body-returns-in_err-link_all
 recursion::Recursion::run_body-returns-in_err-link_all t c =
@@ -349,7 +349,7 @@ pub recursion::Recursion::run_body-tie_outs-requires-clause-into : goal.recursio
 recursion::Recursion::run_body-tie_outs-requires-clause-into t c =
     let y = c.link_all.new.self in
     let more : size c.args.work.now ≤ size y = omega (arith, c.in_ok-frame.ensures.told.2, c.in_ok-into.ensures.run.told.3, c.in_ok-link_all.ensures.told.2) in
-    hubs_there c.args.self.now.hubs.now c.args.arrow.head (size y) c.in_map-2.result c.in_map-2.ensures (c.requires.crosses.closed c.requires.reached) (omega (arith, c.requires.stands, more)) (omega (arith, c.requires.bound 0, more))
+    hubs_there c.args.self.now.hubs.now c.args.arrow.head (size y) c.in_map-2.result c.in_map-2.ensures (c.requires.crosses.closed c.requires.reached) (omega (arith, c.requires.ready.1, more)) (omega (arith, c.requires.ready.0 0, more))
 
 pub recursion::Recursion::run_body-returns-in_err-tie_outs : goal.recursion::Recursion::run_body-returns-in_err-tie_outs
 recursion::Recursion::run_body-returns-in_err-tie_outs t c =
