@@ -5,6 +5,7 @@ ghost use Rattle.bounded.specs.Lists.{held, spare, room};
 
 // The list is the first `len` slots, or all of them where `len` is more. Any slots and any `len`
 // make a list, so a list that was put aside goes on with the `len` that it had.
+// Kept as slots with a length: the memory is the caller's, and lists of the standard library own theirs.
 #[derive(Drop)]
 pub struct Bounded<'a, T> {
     pub slots: &'a mut [T],

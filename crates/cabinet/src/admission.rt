@@ -62,22 +62,12 @@ fn read_lines(heap: Global, text: &str) -> Result<Written, Unread> {
 // The line that says whether the expression is admitted.
 fn admission_line(heap: Global, written: &Written) -> Result<String, AllocError> {
     let mut expression = Expression::new();
-    match admit(
-        written.places.as_slice(),
-        written.constants,
-        &mut expression,
-    ) {
+    match admit(&written.places, written.constants, &mut expression) {
         Ok(()) => {
             let places = expression.count();
             format!(in heap; "admitted places={places}")
         }
-        Err(refusal) => {
-            let number = refusal.number();
-            match refusal.place() {
-                Some(place) => format!(in heap; "refused {number} place={place}"),
-                None => format!(in heap; "refused {number}"),
-            }
-        }
+        Err(refusal) => format!(in heap; "refused {refusal}"),
     }
 }
 

@@ -34,6 +34,7 @@ impl FromStr for KindName {
 }
 
 // The command that a verb and its kind ask for; a verb without a kind has the empty one.
+// Kept as an empty word: one that is typed as an empty word asks for no kind either.
 fn asked(verb: &str, kind: &str) -> Option<Command> {
     match (verb, kind) {
         ("labels", kind) => kind.parse().ok().map(Command::Labels),

@@ -1,4 +1,5 @@
 // Places, arrows and labels as they are written: `E,v1,0`, `0,1,North`.
+// Kept beside the reader of `cabinet`, which tells what a user wrote amiss: these texts are our own.
 use anyhow::{Context, anyhow};
 use expression::raw::RawPlace;
 use expression::term::Term;

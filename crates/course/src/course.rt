@@ -11,6 +11,7 @@ pub const FRAMES: usize = 512;
 pub const COMPARISONS: usize = 1024;
 
 // The place that the entries of the source carry: one past the last place of an expression.
+// Kept as a number: the rules print it so, and give frame 0 itself for its parent and arrow 0.
 pub const SOURCE_PLACE: usize = 64;
 
 // Where an arrow's label comes from.

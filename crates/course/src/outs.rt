@@ -54,6 +54,7 @@ impl Workspace {
         requires into { Within (vec_len self.old.nodes) into }
         ensures { Goes (each (tie rule.place rule.frame set into) (take (mid - base) (drop base (stack self.old))) (course_of self.old)) self.old self.new result }
     {
+        // Kept as a loop over numbers: an arrow is entered while the outs are gone through.
         for i in base..mid {
             let out = self.outs[i];
             self.tie_out(rule, out, set, into)?;
