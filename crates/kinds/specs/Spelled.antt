@@ -11,6 +11,7 @@ use Rattle.kinds.specs.declared.digits.Base.{Base}
 use Rattle.kinds.specs.declared.digits.Base.TheVariants.{Ten, Sixteen}
 use Rattle.kinds.specs.Digits.{radix_of, glyph_of, padded, spelled, Spells}
 
+-- a base has at least two digits
 pub two_digits : (base : Base) → 2 ≤ radix_of base
 two_digits Ten = omega arith
 two_digits Sixteen = omega arith

@@ -26,7 +26,9 @@ fn glyph(digit: u32) -> u8
 
 // The digit that a byte is the glyph of, if it is one.
 fn value(byte: u8) -> Option<u32>
-    ensures { MatchOption result ((d : ℕ) → d < 16 → glyph_of d ≢ byte) (λ d. (d < 16) × (glyph_of d ≡ byte)) }
+    ensures { MatchOption result
+        ((d : ℕ) → d < 16 → glyph_of d ≢ byte)
+        (λ d. (d < 16) × (glyph_of d ≡ byte)) }
 {
     match byte {
         b'0'..=b'9' => Some(u32::from(byte - b'0')),
@@ -45,12 +47,15 @@ impl Base {
 
     // The digit of the base that a byte is the glyph of, if it is one.
     fn digit(self, byte: u8) -> Option<u32>
-        ensures { MatchOption result ((d : ℕ) → d < radix_of self → glyph_of d ≢ byte) (λ d. (d < radix_of self) × (glyph_of d ≡ byte)) }
+        ensures { MatchOption result
+            ((d : ℕ) → d < radix_of self → glyph_of d ≢ byte)
+            (λ d. (d < radix_of self) × (glyph_of d ≡ byte)) }
     {
         value(byte).filter(|&digit| digit < self.radix())
     }
 
-    // The number `n` with this digit after it, where the byte is a digit and 32 bits hold the number.
+    // The number `n` with a digit after it; none where the byte is no digit of the base, or where
+    // 32 bits do not hold the number.
     fn followed_by(self, n: u32, byte: u8) -> Option<u32>
         ensures { MatchOption result
             ((d : ℕ) → d < radix_of self → glyph_of d ≡ byte → 2 ^ 32 ≤ n * radix_of self + d)
@@ -75,7 +80,9 @@ impl Base {
     // The number that these digits write; none where a byte is no digit of the base, or where 32
     // bits do not hold the number.
     pub(crate) fn read(self, digits: &[u8]) -> Option<u32>
-        ensures { MatchOption result ((n : ℕ) → n < 2 ^ 32 → Spells (radix_of self) digits.now n → ⊥) (Spells (radix_of self) digits.now) }
+        ensures { MatchOption result
+            ((n : ℕ) → n < 2 ^ 32 → ¬ Spells (radix_of self) digits.now n)
+            (Spells (radix_of self) digits.now) }
     {
         let mut n = 0u32;
         for &byte in digits {

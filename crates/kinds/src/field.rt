@@ -52,7 +52,9 @@ impl Field {
 
     // The number in a text that is the field, also where it is written with more or fewer digits.
     pub(crate) fn read(self, text: &[u8]) -> Option<u32>
-        ensures { MatchOption result ((n : ℕ) → n < 2 ^ 32 → Fills self text.now n → ⊥) (Fills self text.now) }
+        ensures { MatchOption result
+            ((n : ℕ) → n < 2 ^ 32 → ¬ Fills self text.now n)
+            (Fills self text.now) }
     {
         self.base.read(text.strip_prefix(&[self.letter, b':'])?)
     }
