@@ -1,8 +1,9 @@
 -- What a bench stores, read by number: the edits of its draft, and how many commits are undone. Assumes nothing.
-use Rattle.std.proofs.Common.{◌≡◌, ℕ, zero, suc, ◌+◌, ◌≤◌, List, [], ◌∷◌, length, take, drop, Some, None, Option, refl, ap, ◌∙◌, arith}
+use Rattle.std.proofs.Common.{◌≡◌, ℕ, zero, suc, ◌+◌, ◌-◌, ◌≤◌, List, [], ◌∷◌, length, drop, Some, None, Option, refl, ap, ◌∙◌, arith}
 use Rattle.std.specs.List.{slice_get}
 use Rattle.std.specs.Option.{option_map}
-use Rattle.std.proofs.lemmas.List.{length-take, length-drop}
+use Rattle.std.proofs.lemmas.List.{length-drop}
+use Rattle.arrayvec.specs.ArrayVec.{array_vec_len}
 use Rattle.rows.specs.declared.row.Row.{Row}
 use Rattle.editing.specs.Model.{how_many}
 use Rattle.bench.specs.declared.draft.Draft.{Draft}
@@ -42,10 +43,7 @@ commits_length i [] arrows hs = refl
 commits_length i (n ∷ ns) arrows hs = ap suc (commits_length (i + n) ns arrows hs)
 
 -- how many commits are undone
-pub undone_length : {L : Type 0} (h : History) (hs : List L) → length (drop h.standing (history_of h hs)) ≡ h.undone
+pub undone_length : {L : Type 0} (h : History) (hs : List L) → length (drop h.standing (history_of h hs)) ≡ array_vec_len h.sizes - h.standing
 undone_length h hs =
-    let room = h.sizes_room in
-    let few = h.few in
-    let all = commits_length 0 (take (h.standing + h.undone) h.sizes) h.arrows hs in
-    let taken : length (take (h.standing + h.undone) h.sizes) ≡ h.standing + h.undone = simp length-take (omega arith) in
+    let all = commits_length 0 h.sizes.items h.arrows.items hs in
     simp length-drop (omega arith)

@@ -83,7 +83,7 @@ module _ {L : Type 0} where
   commits_of i (n ∷ ns) arrows history = commit_at i n arrows history ∷ commits_of (i + n) ns arrows history
 
   abbrev pub history_of : History → List L → List (List (Kept L))
-  history_of h hs = commits_of 0 (take (h.standing + h.undone) h.sizes) h.arrows hs
+  history_of h hs = commits_of 0 h.sizes.items h.arrows.items hs
 
   abbrev pub labels_of : Bench → Lists L → Labelling L
   labels_of b t = record { arrows = take (length (ends_of b.source)) t.labels; constants = take b.constants t.constants }

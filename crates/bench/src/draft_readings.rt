@@ -40,7 +40,7 @@ impl Bench {
         self.ready(tables)?;
         Ok(Commits {
             standing: self.history.standing,
-            undone: self.history.undone,
+            undone: self.history.undone(),
         })
     }
 }
