@@ -1,5 +1,5 @@
 -- What a call does on the machine, once its first checks pass. Assumes nothing.
-use Rattle.std.proofs.Common.{◌≡◌, ℕ, ◌≤◌, Bool, true, false, cond, not, ◌&&◌, eqb, ltb, leb, List, length, Some, None, Ok, Err, Option, Result, is_some, sym, refl, ap, ◌∙◌}
+use Rattle.std.proofs.Common.{◌≡◌, ℕ, ◌≤◌, Bool, true, false, cond, not, ◌&&◌, eqb, ltb, leb, List, length, Some, Ok, Err, Option, Result, is_some, sym, refl, ap, ◌∙◌}
 use Rattle.std.specs.List.{slice_get}
 use Rattle.std.specs.Option.{option_map_or}
 use Rattle.std.proofs.lemmas.Bool.{or_parts, ltb-false, cond-true, cond-false}
@@ -25,11 +25,11 @@ ready_ok true o h = absurd cc
 ready_ok false true h = (refl, refl)
 ready_ok false false h = absurd cc
 
-pub admitted_ok : (r : Result Unit Refusal) (f : Bool) (o : Option Draft) (d : Draft) → admitted r f o ≡ Ok d → (r ≡ Ok tt) × (f ≡ true) × (o ≡ Some d)
-admitted_ok (Err e) f o d h = absurd cc
-admitted_ok (Ok u) f None d h = absurd cc
-admitted_ok (Ok u) true (Some x) d h = (refl, refl, cc)
-admitted_ok (Ok u) false (Some x) d h = absurd cc
+pub admitted_ok : (r : Result Unit Refusal) (f o : Bool) → admitted r f o ≡ Ok tt → (r ≡ Ok tt) × (f ≡ true)
+admitted_ok (Err e) f o h = absurd cc
+admitted_ok (Ok u) f false h = absurd cc
+admitted_ok (Ok u) true true h = (refl, refl)
+admitted_ok (Ok u) false true h = absurd cc
 
 pub asked_long : {L : Type 0} (b : Bench) (t : Lists L) (o : Bool) → ready (short b t) o ≡ Ok tt → 32 ≤ length t.asked
 asked_long b t o h =

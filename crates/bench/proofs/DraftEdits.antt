@@ -1,9 +1,10 @@
 -- Edits stored as rows and labels: one removed, replaced or put in. Assumes nothing.
 use Rattle.std.proofs.Common.{◌≡◌, ℕ, zero, suc, ◌+◌, ◌-◌, ◌<◌, ◌≤◌, true, false, cond, not, ◌&&◌, eqb, ltb, leb, List, [], ◌∷◌, ◌++◌, length, get_or, take, drop, set, Ok, Err, sym, refl, ap, ◌∙◌, arith}
 use Rattle.std.specs.List.{insert as list_insert, remove as list_remove}
-use Rattle.std.proofs.lemmas.Bool.{eq-eqb, ne_eqb, le-ltb, lt-ltb, cond-true, cond-false, le-leb, lt-leb}
+use Rattle.std.proofs.lemmas.Bool.{eq-eqb, ne_eqb, le-ltb, lt-ltb, cond-true, cond-false, lt-leb}
 use Rattle.std.proofs.Math.Seq.{take-set-lt}
 use Rattle.std.proofs.lemmas.List.{length-take}
+use Rattle.arrayvec.specs.ArrayVec.{array_vec_len}
 use Rattle.rows.specs.declared.row.Row.{Row}
 use Rattle.editing.specs.declared.refusal.Refusal.TheVariants.{FullDraft}
 use Rattle.editing.specs.Model.{insert, remove, edited}
@@ -79,49 +80,65 @@ module _ {L : Type 0} (rows : List Row) (r : ℕ) where
   inserted l' (x ∷ rs) (l ∷ ls) (suc at) e h b f =
       ap (λ z. edit_for rows x l ∷ z) (inserted l' rs ls at (omega arith) (omega arith) (lower r x rs at b) (λ k. f (omega arith))) ∙ sym (pass r x _ _ _ (b 0 (omega arith)))
 
+-- only as many labels count as there are rows
+paired_front : {L : Type 0} (rows : List Row) (rs : List ℕ) (ls : List L) → paired_edits rows rs (take (length rs) ls) ≡ paired_edits rows rs ls
+paired_front rows [] ls = refl
+paired_front rows (r ∷ rs) [] = refl
+paired_front rows (r ∷ rs) (l ∷ ls) = ap (λ z. edit_for rows r l ∷ z) (paired_front rows rs ls)
+
 -- the edits of a draft after each outcome of a search for its row
 module _ {L : Type 0} (rows : List Row) (d : Draft) (ls : List L) (long : 32 ≤ length ls) where
-  R : length (take d.count d.rows) ≡ d.count
-  R = let f = d.few in let r = d.room in simp length-take (omega arith)
+  abbrev rs : List ℕ
+  rs = d.rows.items
 
-  A : length (take d.count ls) ≡ d.count
+  abbrev first : List L
+  first = take (length rs) ls
+
+  A : length first ≡ length rs
   A = let f = d.few in simp length-take (omega arith)
 
-  pub edits_length : length (edits_of rows d ls) ≡ d.count
-  edits_length = paired_length rows d.count (take d.count d.rows) (take d.count ls) R A
+  front : edits_of rows d ls ≡ paired_edits rows rs first
+  front = sym (paired_front rows rs ls)
 
-  module _ (r at : ℕ) (s : Stands (take d.count d.rows) r at) where
+  pub edits_length : length (edits_of rows d ls) ≡ array_vec_len d.rows
+  edits_length = ap length front ∙ paired_length rows (length rs) rs first refl A
+
+  module _ (r at : ℕ) (s : Stands d.rows.items r at) where
     pub has : edited r (edits_of rows d ls) ≡ true
-    has = edited_there rows r (take d.count d.rows) (take d.count ls) at (A ∙ sym R) s.within s.below s.here
+    has = ap (edited r) front ∙ edited_there rows r rs first at A s.within s.below s.here
 
     pub has_room : Ok tt ≡ room_for r (edits_of rows d ls)
     has_room = sym (cond-false _ _ _ (ap (λ z. not z && leb 32 (length (edits_of rows d ls))) has))
 
     pub replaced : (l : L) → edits_of rows d (set ls at l) ≡ insert (edit_for rows r l) (edits_of rows d ls)
     replaced l =
-        let inside : at < d.count = let n = R in let h = s.within in omega arith in
-        ap (λ z. paired_edits rows (take d.count d.rows) z) (take-set-lt d.count ls at l inside)
-        ∙ replaced_there rows r l (take d.count d.rows) (take d.count ls) at (A ∙ sym R) s.within s.below s.here
+        sym (paired_front rows rs (set ls at l)) ∙ ap (paired_edits rows rs) (take-set-lt (length rs) ls at l s.within)
+        ∙ replaced_there rows r l rs first at A s.within s.below s.here ∙ ap (insert (edit_for rows r l)) (sym front)
 
-    pub gone : (rs' : List ℕ) (ls' : List L) → take (d.count - 1) rs' ≡ list_remove (take d.count d.rows) at → take (d.count - 1) ls' ≡ list_remove (take d.count ls) at
-        → paired_edits rows (take (d.count - 1) rs') (take (d.count - 1) ls') ≡ remove r (edits_of rows d ls)
-    gone rs' ls' p q = rw (p, q) (removed_there rows r (take d.count d.rows) (take d.count ls) at (A ∙ sym R) s.within s.below s.here)
+    pub gone : (rs' : List ℕ) (ls' : List L) → length rs' + 1 ≡ array_vec_len d.rows → rs' ≡ list_remove d.rows.items at → take (array_vec_len d.rows - 1) ls' ≡ list_remove (take (array_vec_len d.rows) ls) at
+        → paired_edits rows rs' ls' ≡ remove r (edits_of rows d ls)
+    gone rs' ls' n p q =
+        let less : length rs' ≡ length rs - 1 = omega arith in
+        sym (paired_front rows rs' ls') ∙ ap (λ (k : ℕ). paired_edits rows rs' (take k ls')) less
+        ∙ rw (p, q) (removed_there rows r rs first at A s.within s.below s.here) ∙ ap (remove r) (sym front)
 
-  module _ (r at : ℕ) (m : Missing (take d.count d.rows) r at) where
+  module _ (r at : ℕ) (m : Missing d.rows.items r at) where
     pub has_none : edited r (edits_of rows d ls) ≡ false
-    has_none = edited_not rows r (take d.count d.rows) (take d.count ls) at (A ∙ sym R) m.within m.below m.above
+    has_none = ap (edited r) front ∙ edited_not rows r rs first at A m.within m.below m.above
 
-    pub no_room : 32 ≤ d.count → Err FullDraft ≡ room_for r (edits_of rows d ls)
+    pub no_room : array_vec_len d.rows ≡ 32 → Err FullDraft ≡ room_for r (edits_of rows d ls)
     no_room h =
-        sym (cond-true _ _ _ (ap (λ z. not z && leb 32 (length (edits_of rows d ls))) has_none ∙ ap (leb 32) edits_length ∙ le-leb 32 d.count h))
+        sym (cond-true _ _ _ (ap (λ z. not z && leb 32 (length (edits_of rows d ls))) has_none ∙ ap (leb 32) (edits_length ∙ h)))
 
-    pub has_place : d.count < 32 → Ok tt ≡ room_for r (edits_of rows d ls)
+    pub has_place : array_vec_len d.rows < 32 → Ok tt ≡ room_for r (edits_of rows d ls)
     has_place h =
-        sym (cond-false _ _ _ (ap (λ z. not z && leb 32 (length (edits_of rows d ls))) has_none ∙ ap (leb 32) edits_length ∙ lt-leb 32 d.count h))
+        sym (cond-false _ _ _ (ap (λ z. not z && leb 32 (length (edits_of rows d ls))) has_none ∙ ap (leb 32) edits_length ∙ lt-leb 32 (array_vec_len d.rows) h))
 
     pub same_edits : edits_of rows d ls ≡ remove r (edits_of rows d ls)
-    same_edits = removed_not rows r (take d.count d.rows) (take d.count ls) at (A ∙ sym R) m.within m.below m.above
+    same_edits = front ∙ removed_not rows r rs first at A m.within m.below m.above ∙ ap (remove r) (sym front)
 
-    pub more : (l : L) (rs' : List ℕ) (ls' : List L) → take (d.count + 1) rs' ≡ list_insert (take d.count d.rows) at r → take (d.count + 1) ls' ≡ list_insert (take d.count ls) at l
-        → paired_edits rows (take (d.count + 1) rs') (take (d.count + 1) ls') ≡ insert (edit_for rows r l) (edits_of rows d ls)
-    more l rs' ls' p q = rw (p, q) (inserted rows r l (take d.count d.rows) (take d.count ls) at (A ∙ sym R) m.within m.below m.above)
+    pub more : (l : L) (rs' : List ℕ) (ls' : List L) → length rs' ≡ array_vec_len d.rows + 1 → rs' ≡ list_insert d.rows.items at r → take (array_vec_len d.rows + 1) ls' ≡ list_insert (take (array_vec_len d.rows) ls) at l
+        → paired_edits rows rs' ls' ≡ insert (edit_for rows r l) (edits_of rows d ls)
+    more l rs' ls' n p q =
+        sym (paired_front rows rs' ls') ∙ ap (λ (k : ℕ). paired_edits rows rs' (take k ls')) n
+        ∙ rw (p, q) (inserted rows r l rs first at A m.within m.below m.above) ∙ ap (insert (edit_for rows r l)) (sym front)

@@ -1,8 +1,11 @@
 -- What a bench stores, read by number: the edits of its draft, and how many commits are undone. Assumes nothing.
-use Rattle.std.proofs.Common.{◌≡◌, ℕ, zero, suc, ◌+◌, ◌≤◌, List, [], ◌∷◌, length, take, drop, Some, None, Option, refl, ap, ◌∙◌, arith}
+use Rattle.std.proofs.Common.{◌≡◌, ℕ, zero, suc, ◌+◌, ◌-◌, ◌≤◌, List, [], ◌∷◌, length, drop, Some, None, Option, Bor, sym, refl, ap, ◌∙◌, arith}
 use Rattle.std.specs.List.{slice_get}
-use Rattle.std.specs.Option.{option_map}
-use Rattle.std.proofs.lemmas.List.{length-take, length-drop}
+use Rattle.std.specs.Option.{option_map, option_copied}
+use Rattle.std.specs.Slice.{IsItemAt}
+use Rattle.std.proofs.lemmas.List.{length-drop}
+use Rattle.std.proofs.lemmas.Option.{slice_get_past, slice_get_read}
+use Rattle.arrayvec.specs.ArrayVec.{array_vec_len}
 use Rattle.rows.specs.declared.row.Row.{Row}
 use Rattle.editing.specs.Model.{how_many}
 use Rattle.bench.specs.declared.draft.Draft.{Draft}
@@ -10,6 +13,11 @@ use Rattle.bench.specs.declared.history.History.{History}
 use Rattle.bench.specs.Edits.{edit_for, paired_edits}
 use Rattle.bench.specs.Reading.{draft_of, commits_of, history_of}
 use Rattle.bench.proofs.DraftEdits.{edits_length}
+
+-- what `get` lends of a list, copied
+pub copied_item : {X : Type 0} (xs : List X) (i : ℕ) (r : Option (Bor X)) → IsItemAt xs i r → option_copied r ≡ slice_get xs i
+copied_item xs i None h = sym (slice_get_past xs i h.3)
+copied_item xs i (Some x) h = sym (slice_get_read xs (length xs) i x.now refl h.3.0 h.1)
 
 module _ {L : Type 0} (rows : List Row) where
   pub no_row : (rs : List ℕ) (ls : List L) (i : ℕ) → slice_get rs i ≡ None → slice_get (paired_edits rows rs ls) i ≡ None
@@ -33,7 +41,7 @@ module _ {L : Type 0} (rows : List Row) where
       ap (λ z. Some (edit_for rows z y)) p ∙ ap (λ z. Some (edit_for rows r z)) q
   an_edit (x ∷ rs) (y ∷ ls) (suc i) r l h k = an_edit rs ls i r l h k
 
-  pub edits_counted : (o : Option Draft) (ls : List L) → 32 ≤ length ls → how_many (draft_of rows o ls) ≡ option_map (λ d. d.count) o
+  pub edits_counted : (o : Option Draft) (ls : List L) → 32 ≤ length ls → how_many (draft_of rows o ls) ≡ option_map (λ d. array_vec_len d.rows) o
   edits_counted None ls h = refl
   edits_counted (Some d) ls h = ap Some (edits_length rows d ls h)
 
@@ -42,10 +50,7 @@ commits_length i [] arrows hs = refl
 commits_length i (n ∷ ns) arrows hs = ap suc (commits_length (i + n) ns arrows hs)
 
 -- how many commits are undone
-pub undone_length : {L : Type 0} (h : History) (hs : List L) → length (drop h.standing (history_of h hs)) ≡ h.undone
+pub undone_length : {L : Type 0} (h : History) (hs : List L) → length (drop h.standing (history_of h hs)) ≡ array_vec_len h.sizes - h.standing
 undone_length h hs =
-    let room = h.sizes_room in
-    let few = h.few in
-    let all = commits_length 0 (take (h.standing + h.undone) h.sizes) h.arrows hs in
-    let taken : length (take (h.standing + h.undone) h.sizes) ≡ h.standing + h.undone = simp length-take (omega arith) in
+    let all = commits_length 0 h.sizes.items h.arrows.items hs in
     simp length-drop (omega arith)

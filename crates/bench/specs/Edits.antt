@@ -2,10 +2,10 @@
 --
 --   origin_at rows r    the origin of the row of number r; blank where there is no such row
 --   edit_for rows r l   the edit that asks the label l for the row of number r; it has the origin of its row
---   paired_edits rows rs ls   the edits of the row numbers rs with the labels ls
+--   paired_edits rows rs ls   the edits of the row numbers rs with the labels ls, as many as there are of both
 --   edits_of rows d ls  the edits of the draft d, whose row numbers speak of rows, with the labels ls of the table
 --   room_for r es       the refusal of an edit of the row r where the edits es are 32 or more and none of them is the row's
-use Rattle.std.specs.Prelude.{ℕ, cond, not, ◌&&◌, List, [], ◌∷◌, length, take, Ok, Err, Result, nat_le}
+use Rattle.std.specs.Prelude.{ℕ, cond, not, ◌&&◌, List, [], ◌∷◌, length, Ok, Err, Result, nat_le}
 use Rattle.std.specs.List.{slice_get}
 use Rattle.std.specs.Option.{option_map_or}
 use Rattle.course.specs.declared.course.Origin.{Origin}
@@ -30,7 +30,7 @@ module _ {L : Type 0} where
   paired_edits rows (r ∷ rs) (l ∷ ls) = edit_for rows r l ∷ paired_edits rows rs ls
 
   abbrev pub edits_of : List Row → Draft → List L → List (Edit L)
-  edits_of rows d ls = paired_edits rows (take d.count d.rows) (take d.count ls)
+  edits_of rows d ls = paired_edits rows d.rows.items ls
 
   abbrev pub room_for : ℕ → List (Edit L) → Result Unit Refusal
   room_for r es = cond (not (edited r es) && nat_le 32 (length es)) (Err FullDraft) (Ok tt)

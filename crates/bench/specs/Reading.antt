@@ -14,8 +14,8 @@
 --   desk b t             the machine's state that the bench and its tables stand for
 --   short b t            whether a table is shorter than the bench needs
 --   ready s o            the first checks of a call: a table is too short, nothing is opened
---   admitted r f d       the draft d that a call with a slip goes on with, or its refusal: r says whether it is ready, and f
---                        whether the slip's number is the bench's
+--   admitted r f o       the first checks of a call with a slip: r says whether it is ready, f whether the slip's number is the
+--                        bench's, and o whether a draft is open
 --   handed s n r         the call with the request r and a slip of number n, where s tells that a table is too short
 --   Steps alike n r b t b' t' a   the bench b with the tables t, handed the request r and a slip of number n, becomes b' with t'
 --                        and answers a, as the machine does
@@ -26,7 +26,7 @@
 --   row_shown ls w       the row w, if there is one, with its label
 --   arrow_shown a l      the source arrow a, if there is one, with the label l
 --   dropped              what abandon answers
-use Rattle.std.specs.Prelude.{◌≡◌, ℕ, ◌+◌, Bool, cond, ◌||◌, List, [], ◌∷◌, length, take, drop, Some, None, Ok, Err, vec_items, Option, Result, nat_lt, is_some}
+use Rattle.std.specs.Prelude.{◌≡◌, ℕ, ◌+◌, Bool, cond, ◌&&◌, ◌||◌, List, [], ◌∷◌, length, take, drop, Some, None, Ok, Err, vec_items, Option, Result, nat_lt, is_some}
 use Rattle.std.specs.Option.{option_map}
 use Rattle.course.specs.declared.source.Source.{Source}
 use Rattle.course.specs.Sources.{graph_of}
@@ -83,7 +83,7 @@ module _ {L : Type 0} where
   commits_of i (n ∷ ns) arrows history = commit_at i n arrows history ∷ commits_of (i + n) ns arrows history
 
   abbrev pub history_of : History → List L → List (List (Kept L))
-  history_of h hs = commits_of 0 (take (h.standing + h.undone) h.sizes) h.arrows hs
+  history_of h hs = commits_of 0 h.sizes.items h.arrows.items hs
 
   abbrev pub labels_of : Bench → Lists L → Labelling L
   labels_of b t = record { arrows = take (length (ends_of b.source)) t.labels; constants = take b.constants t.constants }
@@ -146,7 +146,6 @@ module _ {L : Type 0} where
 abbrev pub ready : Bool → Bool → Result Unit Refusal
 ready s o = cond s (Err ShortTable) (cond o (Ok tt) (Err NothingOpened))
 
-abbrev pub admitted : Result Unit Refusal → Bool → Option Draft → Result Draft Refusal
-admitted (Err e) f d = Err e
-admitted (Ok u) f None = Err SlipUnfit
-admitted (Ok u) f (Some d) = cond f (Ok d) (Err SlipUnfit)
+abbrev pub admitted : Result Unit Refusal → Bool → Bool → Result Unit Refusal
+admitted (Err e) f o = Err e
+admitted (Ok u) f o = cond (o && f) (Ok tt) (Err SlipUnfit)

@@ -1,7 +1,9 @@
 // The edits of a draft: put in, taken out, read.
-ghost use Rattle.std.specs.Prelude.{◌≡◌, ◌≤◌, List, length, OnOk, OnErr};
+ghost use Rattle.std.specs.Prelude.{◌≡◌, ◌≤◌, [], List, length, OnOk, OnErr};
+ghost use Rattle.arrayvec.specs.ArrayVec.{array_vec_len};
 
-use crate::entries::{entry_below, find, insert_at, remove_at};
+use crate::entries::{find, insert_at, remove_at};
+use arrayvec::ArrayVec;
 use course::course::Origin;
 use editing::refusal::Refusal;
 use editing::request::Edit;
@@ -11,15 +13,12 @@ use rows::rows::Rows;
 // How many edits a draft holds.
 pub const EDITS: usize = 32;
 
-// The numbers of the edited rows, upwards. The labels asked for them lie in a table of the caller,
-// in the same order.
-// Kept as an array with a count: no heap is taken here, and no edit may fail for want of memory.
-#[derive(Clone, Copy)]
+// The numbers of the edited rows, upwards. They lie in the draft itself, so that no edit can fail
+// for want of memory. The labels asked for them lie in a table of the caller, in the same order.
+#[derive(Drop)]
 pub struct Draft {
-    pub(crate) count: usize,
-    pub(crate) rows: [usize; 32],
-    ghost few: { count ≤ 32 },
-    ghost room: { length rows ≡ 32 },
+    pub(crate) rows: ArrayVec<usize, 32>,
+    ghost few: { array_vec_len rows ≤ 32 },
 }
 
 impl Draft {
@@ -30,11 +29,10 @@ impl Draft {
 
     // A draft without edits.
     pub(crate) fn new() -> Draft
-        ensures { result.count ≡ 0 }
+        ensures { result.rows.items ≡ [] }
     {
         Draft {
-            count: 0,
-            rows: [0; 32],
+            rows: ArrayVec::new(),
         }
     }
 
@@ -42,8 +40,8 @@ impl Draft {
     pub(crate) fn edit<L: Label>(&self, index: usize, rows: &Rows, asked: &[L]) -> Option<Edit<L>>
         ensures { result ≡ slice_get (edits_of rows.now.rows.items self.now asked.now) index }
     {
-        let row = entry_below(&self.rows, self.count, index)?;
-        let asked = entry_below(asked, self.count, index)?;
+        let row = self.rows.get(index).copied()?;
+        let asked = asked.get(index).copied()?;
         let origin = rows.get(row).map_or(Origin::Blank, |row| row.origin);
         Some(Edit { row, origin, asked })
     }
@@ -53,10 +51,9 @@ impl Draft {
         requires { 32 ≤ length asked.old }
         ensures { (items : List Row) → edits_of items self.new asked.new ≡ remove row (edits_of items self.old asked.old) }
     {
-        if let Ok(at) = find(&self.rows[..self.count], row) {
-            remove_at(&mut self.rows, self.count, at);
-            remove_at(asked, self.count, at);
-            self.count -= 1;
+        if let Ok(at) = find(&self.rows, row) {
+            remove_at(asked, self.rows.len(), at);
+            self.rows.remove(at);
         }
     }
 
@@ -70,15 +67,15 @@ impl Draft {
         requires { 32 ≤ length asked.old }
         ensures answer { (items : List Row) → result ≡ room_for row (edits_of items self.old asked.old) }
         ensures ok { OnOk result ((items : List Row) → edits_of items self.new asked.new ≡ insert (edit_for items row label) (edits_of items self.old asked.old)) }
-        ensures err { OnErr result (asked.new ≡ asked.old) }
+        ensures same_draft { OnErr result (self.new ≡ self.old) }
+        ensures same_asked { OnErr result (asked.new ≡ asked.old) }
     {
-        match find(&self.rows[..self.count], row) {
+        match find(&self.rows, row) {
             Ok(at) => asked[at] = label,
-            Err(_) if self.count >= EDITS => return Err(Refusal::FullDraft),
+            Err(_) if self.rows.is_full() => return Err(Refusal::FullDraft),
             Err(at) => {
-                insert_at(&mut self.rows, self.count, at, row);
-                insert_at(asked, self.count, at, label);
-                self.count += 1;
+                insert_at(asked, self.rows.len(), at, label);
+                self.rows.insert(at, row);
             }
         }
         Ok(())

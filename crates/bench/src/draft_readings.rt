@@ -15,7 +15,7 @@ impl Bench {
         ensures { Reads L.alike ask.Draft self.now tables.now (said answer.Draft result) }
     {
         self.ready(tables)?;
-        Ok(self.draft.map(|draft| draft.count))
+        Ok(self.draft.as_ref().map(|draft| draft.rows.len()))
     }
 
     // An edit of the draft, counted from its lowest row on; none where there is none.
@@ -29,6 +29,7 @@ impl Bench {
         self.ready(tables)?;
         Ok(
             self.draft
+                .as_ref()
                 .and_then(|draft| draft.edit(index, &self.rows, tables.asked)),
         )
     }
@@ -40,7 +41,7 @@ impl Bench {
         self.ready(tables)?;
         Ok(Commits {
             standing: self.history.standing,
-            undone: self.history.undone,
+            undone: self.history.undone(),
         })
     }
 }

@@ -17,18 +17,15 @@ pub struct Returned {
 
 impl Bench {
     // The first checks of a call with a slip: it is ready, a draft is open, and the slip has the
-    // bench's number. It goes on with that draft.
-    pub(crate) fn draft_for<L: Label>(
-        &self,
-        slip: &Slip,
-        tables: &Tables<L>,
-    ) -> Result<Draft, Refusal>
-        ensures { result ≡ admitted (readiness (short self.now (lists_of tables.now)) (is_some self.now.source)) (slip.now.number == self.now.number) self.now.draft }
+    // bench's number.
+    pub(crate) fn admit<L: Label>(&self, slip: &Slip, tables: &Tables<L>) -> Result<(), Refusal>
+        ensures { result ≡ admitted (readiness (short self.now (lists_of tables.now)) (is_some self.now.source)) (slip.now.number == self.now.number) (is_some self.now.draft) }
     {
         self.ready(tables)?;
-        self.draft
-            .filter(|_| slip.number == self.number)
-            .ok_or(Refusal::SlipUnfit)
+        if self.draft.is_none() || slip.number != self.number {
+            return Err(Refusal::SlipUnfit);
+        }
+        Ok(())
     }
 
     // Opens a draft without edits.
@@ -49,7 +46,7 @@ impl Bench {
     pub fn abandon<L: Label>(&mut self, slip: Slip, tables: &Tables<L>) -> Result<(), Returned>
         ensures { Steps L.alike slip.number ask.Abandon self.old (lists_of tables.now) self.new (lists_of tables.now) (dropped result) }
     {
-        if let Err(refusal) = self.draft_for(&slip, tables) {
+        if let Err(refusal) = self.admit(&slip, tables) {
             return Err(Returned { refusal, slip });
         }
         let Slip { number: _ } = slip;

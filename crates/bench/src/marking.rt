@@ -33,15 +33,15 @@ impl Bench {
             asked,
             history,
         };
-        let mut draft = self.draft_for(slip, &tables)?;
+        self.admit(slip, &tables)?;
         let found = self.rows.get(row).ok_or(Refusal::NoSuchEntry)?;
         let shown = self.label_of(found.origin, &tables);
+        let draft = self.draft.as_mut().ok_or(Refusal::SlipUnfit)?;
         if shown.is_some_and(|shown| shown.same(&label)) {
             draft.remove(row, asked);
         } else {
             draft.put(row, label, asked)?;
         }
-        self.draft = Some(draft);
         Ok(())
     }
 }

@@ -12,4 +12,4 @@ returns g c =
     let b = c.args.self.now in
     let t = lists_of c.args.tables.now in
     decided g.L.Label.alike (short b t) 0 ask.History (desk b t) (desk b t) _ _ (sym c.ready.ensures ∙ c.in_ok-ready.was)
-    (ap (λ (n : ℕ). says (answer.History (record { standing = b.history.standing; undone = n }))) (undone_length b.history t.history)) refl refl
+    (ap (λ (n : ℕ). says (answer.History (record { standing = b.history.standing; undone = n }))) (undone_length b.history t.history ∙ sym c.undone.ensures)) refl refl
