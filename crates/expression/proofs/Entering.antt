@@ -65,11 +65,11 @@ module _ (ps : List Form) (low : (k : ℕ) → lower k (get_or ps k Zero) ≡ tr
   past_sets p h = sym (ap sets_of (past ps low p h))
 
   -- a table that has the sets of the places serves the tests as well
-  pub agree_by : (sets : List Sets) → HasSets ps sets → (n p : ℕ) → p < 64 → sets_agree_by (row sets) ps n p ≡ sets_agree ps n p
-  agree_by sets has n p l =
+  pub agree_by : (sets : List Sets) → HasSets ps sets → (p : ℕ) → p < length ps → sets_agree_by (row sets) ps p ≡ sets_agree ps p
+  agree_by sets has p l =
       ap₂ ◌&&◌
       (hold_same p (row sets) (sets_at ps) (λ e h. has e (omega arith)) (get_or ps p Zero) (low_at p))
-      (ap (λ (x : Sets). cond (eqb (suc p) n) (closed x) true) (has p l))
+      (ap (λ (x : Sets). cond (eqb (suc p) (length ps)) (closed x) true) (has p l))
 
   -- a table of sets, filled from the first place on
   pub sets_more : (sets : List Sets) (p : ℕ) (x : Sets) → p < length sets → ((k : ℕ) → k < p → row sets k ≡ sets_at ps k)

@@ -1,5 +1,5 @@
 -- A table that passes every check: the tree of its last place keeps the rules. Assumes nothing.
-use Rattle.std.proofs.Common.{◌≡◌, ℕ, zero, suc, ◌+◌, ◌-◌, ◌<◌, ◌≤◌, true, cond, eqb, List, get_or, sym, refl, ap, ◌∙◌, subst, not-suc-le-zero, arith}
+use Rattle.std.proofs.Common.{◌≡◌, ℕ, zero, suc, ◌+◌, ◌-◌, ◌<◌, ◌≤◌, true, cond, eqb, List, length, get_or, sym, refl, ap, ◌∙◌, subst, not-suc-le-zero, arith}
 use Rattle.std.proofs.lemmas.Bool.{and_parts, and_from, leb-true, lt-ltb, eq-eqb, ne_eqb, cond-true, cond-false}
 use Rattle.expression.specs.declared.form.Form.{Form}
 use Rattle.expression.specs.declared.form.Form.TheVariants.{Zero, Node, Edge, Union, Mark, Out, Disjoint, Append, Graph, If, Recursion}
@@ -64,40 +64,40 @@ sets_grown r T (Graph j) h l part = refl
 sets_grown r T (If s t e f) h l part = and_from _ _ (and_from _ _ (part e l.0) (part f l.1)) h
 sets_grown r T (Recursion b a) h l part = and_from _ _ (and_from _ _ (part b l.0) (part a l.1)) h
 
-module _ (ps : List Form) (low : (k : ℕ) → lower k (get_or ps k Zero) ≡ true) (n : ℕ) (once : (p : ℕ) → p < n → part_once ps n p ≡ true) where
+module _ (ps : List Form) (low : (k : ℕ) → lower k (get_or ps k Zero) ≡ true) (once : (p : ℕ) → p < length ps → part_once ps p ≡ true) where
   -- the levels and the fields, place by place
-  fits_below : (c : ℕ) → ((p : ℕ) → p < n → range_kept ps n c p ≡ true) → (k r : ℕ) → r < k → r < n → fits c (level_at ps n r) (tree_at ps r) ≡ true
+  fits_below : (c : ℕ) → ((p : ℕ) → p < length ps → range_kept ps c p ≡ true) → (k r : ℕ) → r < k → r < length ps → fits c (level_at ps r) (tree_at ps r) ≡ true
   fits_below c range zero r h l = absurd (not-suc-le-zero h)
   fits_below c range (suc k) r h l =
-      ap (fits c (level_at ps n r)) (unrolls ps low r)
-      ∙ fits_grown c r (level_at ps n r) (tree_at ps) (get_or ps r Zero)
+      ap (fits c (level_at ps r)) (unrolls ps low r)
+      ∙ fits_grown c r (level_at ps r) (tree_at ps) (get_or ps r Zero)
       (and_parts _ _ (range r l)).1
-      (λ e. omega (arith, part_times ps low n once e r l))
+      (λ e. omega (arith, part_times ps low once e r l))
       (λ e w.
-      let d = part_level ps low n once e r l w in
+      let d = part_level ps low once e r l w in
       let m = d.0 in
-      let g : level_at ps n e ≤ 4 = leb-true (level_at ps n e) 4 (and_parts _ _ (range e (omega arith))).0 in
+      let g : level_at ps e ≤ 4 = leb-true (level_at ps e) 4 (and_parts _ _ (range e (omega arith))).0 in
       omega (arith, d.1))
       (λ e w.
-      let d = part_level ps low n once e r l w in
+      let d = part_level ps low once e r l w in
       let m = d.0 in
       subst (λ (x : ℕ). fits c x (tree_at ps e) ≡ true) d.1 (fits_below c range k e (omega arith) (omega arith)))
 
-  sets_below : ((p : ℕ) → p < n → sets_agree ps n p ≡ true) → (k r : ℕ) → r < k → r < n → sets_fit (tree_at ps r) ≡ true
+  sets_below : ((p : ℕ) → p < length ps → sets_agree ps p ≡ true) → (k r : ℕ) → r < k → r < length ps → sets_fit (tree_at ps r) ≡ true
   sets_below agree zero r h l = absurd (not-suc-le-zero h)
   sets_below agree (suc k) r h l =
       ap sets_fit (unrolls ps low r)
       ∙ sets_grown r (tree_at ps) (get_or ps r Zero) (and_parts _ _ (agree r l)).0 (lower_tells r (get_or ps r Zero) (low r))
       (λ e m. sets_below agree k e (omega arith) (omega arith))
 
-  pub kept : (c : ℕ) → 0 < n → ((p : ℕ) → p < n → range_kept ps n c p ≡ true) → ((p : ℕ) → p < n → sets_agree ps n p ≡ true) → keeps c (tree_at ps (n - 1)) ≡ true
+  pub kept : (c : ℕ) → 0 < length ps → ((p : ℕ) → p < length ps → range_kept ps c p ≡ true) → ((p : ℕ) → p < length ps → sets_agree ps p ≡ true) → keeps c (tree_at ps (length ps - 1)) ≡ true
   unfolding keeps
   kept c some range agree =
-      let w = n - 1 in
-      let last : suc w ≡ n = omega arith in
-      let in_use : w < n = omega arith in
-      let whole : cond (eqb (suc w) n) (closed (sets_at ps w)) true ≡ true = (and_parts _ _ (agree w in_use)).1 in
+      let w = length ps - 1 in
+      let last : suc w ≡ length ps = omega arith in
+      let in_use : w < length ps = omega arith in
+      let whole : cond (eqb (suc w) (length ps)) (closed (sets_at ps w)) true ≡ true = (and_parts _ _ (agree w in_use)).1 in
       and_from _ _
-      (subst (λ (l : ℕ). fits c l (tree_at ps w) ≡ true) (whole_level ps low n once) (fits_below c range n w in_use in_use))
-      (and_from _ _ (sets_below agree n w in_use in_use)
-      (sym (cond-true (eqb (suc w) n) (closed (sets_at ps w)) true (eq-eqb (suc w) n last)) ∙ whole))
+      (subst (λ (l : ℕ). fits c l (tree_at ps w) ≡ true) (whole_level ps low once) (fits_below c range (length ps) w in_use in_use))
+      (and_from _ _ (sets_below agree (length ps) w in_use in_use)
+      (sym (cond-true (eqb (suc w) (length ps)) (closed (sets_at ps w)) true (eq-eqb (suc w) (length ps) last)) ∙ whole))

@@ -12,6 +12,7 @@ use Rattle.expression.specs.Parts.{times, place_of, raised}
 use Rattle.expression.specs.Rules.{term_fits, fits, sets_fit, keeps}
 use Rattle.expression.specs.Admission.{fields_fit}
 use Rattle.expression.specs.Law.{Apart, Within, TermIn, FieldsIn, Keeps, Drawn, PartLevels, expressed, level_of, Lawful}
+use Rattle.expression.specs.Admitted.{count_of}
 use Rattle.expression.proofs.Trees.{unrolls, lower_tells}
 use Rattle.expression.proofs.Occurring.{here_same, place_at, occurs_above, occurs_once}
 use Rattle.expression.proofs.Rising.{whole_level, part_level, part_times}
@@ -168,8 +169,8 @@ part_levels_of L p (Recursion b a) one h =
 pub lawful : (x : Expression) → Lawful x
 unfolding keeps
 lawful x =
-    let ps = x.table.forms in
-    let n = x.table.count in
+    let ps = x.table.forms.items in
+    let n = count_of x in
     let low = x.table.lower_parts in
     let t = expressed x in
     let some : 0 < n = x.some in
@@ -178,15 +179,15 @@ lawful x =
     let s = and_parts (sets_fit t) (alike (ins t) (just 0) && alike (outs t) no_markers) r.1 in
     let w = and_parts (alike (ins t) (just 0)) (alike (outs t) no_markers) s.1 in
     record {
-      once = occurs_once ps low n x.once;
+      once = occurs_once ps low x.once;
       no_other = λ p h. occurs_above ps low (n - 1) p (omega arith);
       root = place_at ps low (n - 1);
       drawn = drawn_below ps low n (n - 1) last;
       kept = keeps_tree x.constants 0 t (omega arith) r.0 s.0;
       enters = alike_is (ins t) (just 0) w.0;
       leaves = alike_is (outs t) no_markers w.1;
-      whole_level = whole_level ps low n x.once;
-      part_levels = λ p h. part_levels_of (level_of x) p (get_or ps p Zero) (λ e. part_times ps low n x.once e p h) (λ e m. (part_level ps low n x.once e p h m).1);
+      whole_level = whole_level ps low x.once;
+      part_levels = λ p h. part_levels_of (level_of x) p (get_or ps p Zero) (λ e. part_times ps low x.once e p h) (λ e m. (part_level ps low x.once e p h m).1);
       level_bound = λ p h. leb-true (level_of x p) 4 (and_parts (leb (level_of x p) 4) (fields_fit x.constants (level_of x p) (get_or ps p Zero)) (x.ranged p h)).0;
       fields = λ p h. fields_in x.constants (level_of x p) (get_or ps p Zero) (and_parts (leb (level_of x p) 4) (fields_fit x.constants (level_of x p) (get_or ps p Zero)) (x.ranged p h)).1;
     }

@@ -4,12 +4,12 @@ pub mod Entering
 pub mod Examples
 pub mod Filling
 pub mod Flags
+pub mod Forming
 pub mod Keeping
 pub mod Lawfulness
 pub mod Levelling
 pub mod Lowest
 pub mod Occurring
-pub mod Padding
 pub mod Rising
 pub mod Single
 pub mod Trees

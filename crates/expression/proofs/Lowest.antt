@@ -30,12 +30,13 @@ module _ (test : ℕ → Bool) where
   all_pass (suc n) h = ap₂ (λ (o : Option ℕ) (b : Bool). or_here o b n) (all_pass n (λ k z l. h k z (omega arith))) (h n (omega arith) (omega arith))
 
   -- what a search of the places in order tells, by a test that agrees on the places
-  pub lowest_by : (n : ℕ) (r : Option ℕ) (code : ℕ → Bool) → ((k : ℕ) → k < n → code k ≡ test k)
-      → MatchOption r ((k : ℕ) → 0 ≤ k → k < n → code k ≡ true) (λ p. (0 ≤ p) × (p < n) × (code p ≡ false) × ((k : ℕ) → 0 ≤ k → k < p → code k ≡ true))
+  pub lowest_by : (m n : ℕ) → m ≡ n → (r : Option ℕ) (code : ℕ → Bool) → ((k : ℕ) → k < n → code k ≡ test k)
+      → MatchOption r ((k : ℕ) → 0 ≤ k → k < m → code k ≡ true) (λ p. (0 ≤ p) × (p < m) × (code p ≡ false) × ((k : ℕ) → 0 ≤ k → k < p → code k ≡ true))
       → r ≡ lowest n test
-  lowest_by n None code same h = sym (all_pass n (λ k z l. sym (same k l) ∙ h k z l))
-  lowest_by n (Some p) code same h =
-      sym (lowest_found p n (all_pass p (λ k z l. sym (same k (omega arith)) ∙ h.3 k z l)) (sym (same p h.1) ∙ h.2) h.1)
+  lowest_by m n is None code same h = sym (all_pass n (λ k z l. sym (same k l) ∙ h k z (omega arith)))
+  lowest_by m n is (Some p) code same h =
+      let l : p < n = omega (arith, h.1) in
+      sym (lowest_found p n (all_pass p (λ k z i. sym (same k (omega arith)) ∙ h.3 k z i)) (sym (same p l) ∙ h.2) l)
 
   passed : (o : Option ℕ) (b : Bool) (n : ℕ) → or_here o b n ≡ None → (o ≡ None) × (b ≡ true)
   passed (Some p) b n h = absurd (cc)

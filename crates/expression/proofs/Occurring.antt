@@ -1,6 +1,6 @@
 -- A table in which each place but the last is a part once: each of its places stands once in the
 -- last one's tree. Assumes nothing.
-use Rattle.std.proofs.Common.{◌≡◌, ℕ, zero, suc, ◌+◌, ◌-◌, ◌<◌, ◌≤◌, Bool, true, cond, ◌⊎◌, List, [], ◌∷◌, get_or, sym, refl, ap, ◌∙◌, inl, inr, ⊎_elim, not-suc-le-zero, arith}
+use Rattle.std.proofs.Common.{◌≡◌, ℕ, zero, suc, ◌+◌, ◌-◌, ◌<◌, ◌≤◌, Bool, true, cond, ◌⊎◌, List, [], ◌∷◌, length, get_or, sym, refl, ap, ◌∙◌, inl, inr, ⊎_elim, not-suc-le-zero, arith}
 use Rattle.std.proofs.lemmas.Bool.{eqb-true, eq-eqb, ne_eqb, cases_lt, cases_eq}
 use Rattle.expression.specs.declared.form.Form.{Form}
 use Rattle.expression.specs.declared.form.Form.TheVariants.{Zero, Node, Edge, Union, Mark, Out, Disjoint, Append, Graph, If, Recursion}
@@ -172,31 +172,31 @@ module _ (ps : List Form) (low : (k : ℕ) → lower k (get_or ps k Zero) ≡ tr
       omega arith)
       (cases_lt p u)
 
-  module _ (n : ℕ) (once : (p : ℕ) → p < n → part_once ps n p ≡ true) where
-    pub user_of : (p : ℕ) → suc p < n → (u : ℕ) × (u < n) × User ps n p u
+  module _ (once : (p : ℕ) → p < length ps → part_once ps p ≡ true) where
+    pub user_of : (p : ℕ) → suc p < length ps → (u : ℕ) × (u < length ps) × User ps (length ps) p u
     user_of p h =
-        one_user ps n p
-        (eqb-true _ _ (once p (omega arith)) ∙ ap (λ (b : Bool). cond b 0 1) (ne_eqb (suc p) n (omega arith)))
+        one_user ps (length ps) p
+        (eqb-true _ _ (once p (omega arith)) ∙ ap (λ (b : Bool). cond b 0 1) (ne_eqb (suc p) (length ps) (omega arith)))
 
-    once_from : (k p : ℕ) → p < n → n < p + k → occurrences p (tree_at ps (n - 1)) ≡ 1
+    once_from : (k p : ℕ) → p < length ps → length ps < p + k → occurrences p (tree_at ps (length ps - 1)) ≡ 1
     once_from zero p h l = let z : ⊥ = omega arith in absurd z
     once_from (suc k) p h l =
         ⊎_elim
-        (λ (i : suc p < n).
+        (λ (i : suc p < length ps).
         let t = user_of p i in
-        let a = user_above n p t.0 t.1 t.2 in
-        let e = occurs_by_user n p t.0 t.2 (n - 1) (omega arith) in
+        let a = user_above (length ps) p t.0 t.1 t.2 in
+        let e = occurs_by_user (length ps) p t.0 t.2 (length ps - 1) (omega arith) in
         let f = once_from k t.0 t.1 (omega arith) in
-        let g = here_other p (n - 1) (omega arith) in
+        let g = here_other p (length ps - 1) (omega arith) in
         omega arith)
-        (λ (i : n ≤ suc p).
-        let q : p ≡ n - 1 = omega arith in
-        let e = occurs_at (n - 1) p in
-        let f = total_none (λ e. occurrences p (tree_at ps e)) (n - 1) (parts_of (get_or ps (n - 1) Zero)) (below_at (n - 1)) (λ x m. occurs_above x p (omega arith)) in
-        let g = here_same p (n - 1) q in
+        (λ (i : length ps ≤ suc p).
+        let q : p ≡ length ps - 1 = omega arith in
+        let e = occurs_at (length ps - 1) p in
+        let f = total_none (λ e. occurrences p (tree_at ps e)) (length ps - 1) (parts_of (get_or ps (length ps - 1) Zero)) (below_at (length ps - 1)) (λ x m. occurs_above x p (omega arith)) in
+        let g = here_same p (length ps - 1) q in
         omega arith)
-        (cases_lt (suc p) n)
+        (cases_lt (suc p) (length ps))
 
     -- each place stands once in the tree of the last
-    pub occurs_once : (p : ℕ) → p < n → occurrences p (tree_at ps (n - 1)) ≡ 1
-    occurs_once p h = once_from (suc n) p h (omega arith)
+    pub occurs_once : (p : ℕ) → p < length ps → occurrences p (tree_at ps (length ps - 1)) ≡ 1
+    occurs_once p h = once_from (suc (length ps)) p h (omega arith)

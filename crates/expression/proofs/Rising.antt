@@ -1,5 +1,5 @@
 -- The level of a part is its user's, and one more for the body of a recursion. Assumes nothing.
-use Rattle.std.proofs.Common.{◌≡◌, ℕ, zero, suc, ◌+◌, ◌-◌, ◌<◌, ◌≤◌, true, cond, eqb, ltb, List, get_or, sym, refl, ap, ◌∙◌, subst, ⊎_elim, not-suc-le-zero, arith}
+use Rattle.std.proofs.Common.{◌≡◌, ℕ, zero, suc, ◌+◌, ◌-◌, ◌<◌, ◌≤◌, true, cond, eqb, ltb, List, length, get_or, sym, refl, ap, ◌∙◌, subst, ⊎_elim, not-suc-le-zero, arith}
 use Rattle.std.proofs.lemmas.Bool.{eq-eqb, ne_eqb, lt-ltb, le-ltb, cases_lt, cases_eq, cond-true, cond-false}
 use Rattle.expression.specs.declared.form.Form.{Form}
 use Rattle.expression.specs.declared.form.Form.TheVariants.{Zero, Node, Edge, Union, Mark, Out, Disjoint, Append, Graph, If, Recursion}
@@ -151,24 +151,24 @@ module _ (ps : List Form) (low : (k : ℕ) → lower k (get_or ps k Zero) ≡ tr
       (λ s. ap (λ (y : ℕ). raised (get_or ps y Zero) p l) s)
       in ap (level_in p l) e ∙ f ∙ ap (λ (t : Tree). raised (get_or ps u Zero) p (level_in u l t)) (sym e)
 
-  module _ (n : ℕ) (once : (p : ℕ) → p < n → part_once ps n p ≡ true) where
+  module _ (once : (p : ℕ) → p < length ps → part_once ps p ≡ true) where
     -- the whole stands at level 0
-    pub whole_level : level_at ps n (n - 1) ≡ 0
-    whole_level = own_level (n - 1) 0
+    pub whole_level : level_at ps (length ps - 1) ≡ 0
+    whole_level = own_level (length ps - 1) 0
 
-    user_is : (p r : ℕ) → r < n → p < r → 0 < times p (parts_of (get_or ps r Zero)) → User ps n p r
+    user_is : (p r : ℕ) → r < length ps → p < r → 0 < times p (parts_of (get_or ps r Zero)) → User ps (length ps) p r
     user_is p r h l s =
-        let t = user_of ps low n once p (omega arith) in
+        let t = user_of ps low once p (omega arith) in
         let w = t.2 in
         let e : t.0 ≡ r = ⊎_elim (λ (q : t.0 ≡ r). q) (λ (q : t.0 ≡ r → ⊥). let z = here_other t.0 r q in omega (arith, w r h)) (cases_eq t.0 r) in
-        subst (λ (y : ℕ). User ps n p y) e w
+        subst (λ (y : ℕ). User ps (length ps) p y) e w
 
     part_below : (p r : ℕ) → 0 < times p (parts_of (get_or ps r Zero)) → p < r
     part_below p r s =
         ⊎_elim (λ (l : p < r). l) (λ (l : r ≤ p). let e = times_above p r (parts_of (get_or ps r Zero)) (below_at ps low r) l in omega arith) (cases_lt p r)
 
     -- no place is a part of another twice
-    pub part_times : (p r : ℕ) → r < n → times p (parts_of (get_or ps r Zero)) ≤ 1
+    pub part_times : (p r : ℕ) → r < length ps → times p (parts_of (get_or ps r Zero)) ≤ 1
     part_times p r h =
         ⊎_elim
         (λ (s : 0 < times p (parts_of (get_or ps r Zero))). omega (arith, user_is p r h (part_below p r s) s r h, here_same r r refl))
@@ -176,10 +176,10 @@ module _ (ps : List Form) (low : (k : ℕ) → lower k (get_or ps k Zero) ≡ tr
         (cases_lt 0 (times p (parts_of (get_or ps r Zero))))
 
     -- a part stands lower, at its user's level, the body of a recursion one higher
-    pub part_level : (p r : ℕ) → r < n → 0 < times p (parts_of (get_or ps r Zero)) → (p < r) × (level_at ps n p ≡ raised (get_or ps r Zero) p (level_at ps n r))
+    pub part_level : (p r : ℕ) → r < length ps → 0 < times p (parts_of (get_or ps r Zero)) → (p < r) × (level_at ps p ≡ raised (get_or ps r Zero) p (level_at ps r))
     part_level p r h s =
         let l = part_below p r s in (
           l,
-          by_user n p r (user_is p r h l s) n (n - 1) 0 (omega arith) (omega arith) (omega arith)
-              (omega (arith, occurs_once ps low n once r h)),
+          by_user (length ps) p r (user_is p r h l s) (length ps) (length ps - 1) 0 (omega arith) (omega arith) (omega arith)
+              (omega (arith, occurs_once ps low once r h)),
         )

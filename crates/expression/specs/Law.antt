@@ -23,7 +23,7 @@ use Rattle.expression.specs.declared.expression.Expression.{Expression}
 use Rattle.expression.specs.Markers.{no_markers, just}
 use Rattle.expression.specs.Forms.{Tree, t_zero, t_node, t_edge, t_union, t_mark, t_out, t_disjoint, t_append, t_graph, t_if, t_recursion, ins, outs}
 use Rattle.expression.specs.Parts.{place_of, occurrences, level_in}
-use Rattle.expression.specs.Admitted.{form_of, tree_of, whole_of}
+use Rattle.expression.specs.Admitted.{form_of, tree_of, count_of, whole_of}
 
 abbrev pub Has : List Bool → ℕ → Type 0
 Has set m = slice_index_or set m false ≡ true
@@ -105,17 +105,17 @@ level_of x p = level_in p 0 (expressed x)
 
 pub record Lawful (x : Expression) : Type 0 where
   -- each place in use stands in the tree exactly once, and no other number does
-  pub once : (p : ℕ) → p < x.table.count → occurrences p (expressed x) ≡ 1
-  pub no_other : (p : ℕ) → x.table.count ≤ p → occurrences p (expressed x) ≡ 0
+  pub once : (p : ℕ) → p < count_of x → occurrences p (expressed x) ≡ 1
+  pub no_other : (p : ℕ) → count_of x ≤ p → occurrences p (expressed x) ≡ 0
   -- the tree is the table's, its root the last place
   pub root : place_of (expressed x) ≡ whole_of x
-  pub drawn : Drawn x.table.forms (expressed x)
+  pub drawn : Drawn x.table.forms.items (expressed x)
   -- it keeps every rule, and the whole its own
   pub kept : Keeps x.constants 0 (expressed x)
   pub enters : ins (expressed x) ≡ just 0
   pub leaves : outs (expressed x) ≡ no_markers
   -- the levels in the tree, as the table has them
   pub whole_level : level_of x (whole_of x) ≡ 0
-  pub part_levels : (p : ℕ) → p < x.table.count → PartLevels (level_of x) p (form_of x p)
-  pub level_bound : (p : ℕ) → p < x.table.count → level_of x p ≤ 4
-  pub fields : (p : ℕ) → p < x.table.count → FieldsIn x.constants (level_of x p) (form_of x p)
+  pub part_levels : (p : ℕ) → p < count_of x → PartLevels (level_of x) p (form_of x p)
+  pub level_bound : (p : ℕ) → p < count_of x → level_of x p ≤ 4
+  pub fields : (p : ℕ) → p < count_of x → FieldsIn x.constants (level_of x p) (form_of x p)

@@ -8,7 +8,7 @@
 --   sets_of tree          the sets of a tree
 --   sets_at table p       the sets of the tree of a place of a table
 --   HasSets table sets    a table of sets has those of the places of a table
-use Rattle.std.specs.Prelude.{◌≡◌, ℕ, ◌<◌, Bool, List, [], slice_index_or}
+use Rattle.std.specs.Prelude.{◌≡◌, ℕ, ◌<◌, Bool, List, [], length, slice_index_or}
 use Rattle.expression.specs.declared.form.Form.{Form}
 use Rattle.expression.specs.declared.form.Form.TheVariants.{Zero, Node, Edge, Union, Mark, Out, Disjoint, Append, Graph, If, Recursion}
 use Rattle.expression.specs.declared.sets.Sets.{Sets}
@@ -42,4 +42,4 @@ abbrev pub sets_at : List Form → ℕ → Sets
 sets_at table p = sets_of (tree_at table p)
 
 abbrev pub HasSets : List Form → List Sets → Type 0
-HasSets table sets = (p : ℕ) → p < 64 → row sets p ≡ sets_at table p
+HasSets table sets = (p : ℕ) → p < length table → row sets p ≡ sets_at table p

@@ -1,5 +1,5 @@
 // The conditions on the in-sets and out-sets of a table's places.
-ghost use Rattle.std.specs.Prelude.{◌≡◌, ◌<◌, ◌≤◌};
+ghost use Rattle.std.specs.Prelude.{◌≡◌, ◌<◌, ◌≤◌, length};
 ghost use Rattle.expression.specs.Forms.{Lower};
 ghost use Rattle.expression.specs.Sets.{row, HasSets};
 ghost use Rattle.expression.specs.declared.refusal.Refusal.TheVariants.{SetsUnfit};
@@ -35,19 +35,19 @@ impl Table {
     // Whether the sets at a place are as its form asks, and at the last place as the whole has to
     // have them.
     fn sets_fit(&self, sets: &[Sets; PLACES], place: usize) -> bool
-        requires { place < self.now.count }
-        ensures { result ≡ sets_agree_by (row sets.now) self.now.forms self.now.count place }
+        requires { place < length self.now.forms.items }
+        ensures { result ≡ sets_agree_by (row sets.now) self.now.forms.items place }
     {
         form_sets_hold(self.forms[place], sets)
-            && (place + 1 != self.count || sets[place].is_closed())
+            && (place + 1 != self.forms.len() || sets[place].is_closed())
     }
 
     // Refuses the lowest place whose sets do not hold.
     pub(crate) fn check_sets(&self, sets: &[Sets; PLACES]) -> Result<(), Refusal>
-        requires { HasSets self.now.forms sets.now }
-        ensures { result ≡ told SetsUnfit (lowest self.now.count (sets_agree self.now.forms self.now.count)) }
+        requires { HasSets self.now.forms.items sets.now }
+        ensures { result ≡ told SetsUnfit (lowest (length self.now.forms.items) (sets_agree self.now.forms.items)) }
     {
-        (0..self.count)
+        (0..self.forms.len())
             .find(|&place| !self.sets_fit(sets, place))
             .map_or(Ok(()), |place| Err(Refusal::SetsUnfit(place)))
     }

@@ -1,6 +1,6 @@
 // An admitted expression: a table of places that keeps every rule.
-ghost use Rattle.std.specs.Prelude.{◌≡◌, ℕ, ◌-◌, ◌<◌, ◌≤◌, true, replicate, slice_set};
-ghost use Rattle.expression.specs.declared.form.Form.TheVariants.{Zero as NoPlace, Node as OneNode};
+ghost use Rattle.std.specs.Prelude.{◌≡◌, ℕ, ◌-◌, ◌<◌, ◌≤◌, true, [], ◌∷◌, length};
+ghost use Rattle.expression.specs.declared.form.Form.TheVariants.{Node as OneNode};
 ghost use Rattle.expression.specs.Forms.{tree_at};
 ghost use Rattle.expression.specs.Sets.{HasSets};
 ghost use Rattle.expression.specs.Rules.{keeps};
@@ -27,20 +27,20 @@ pub struct Expression {
     pub(crate) levels: [usize; PLACES],
     pub(crate) sets: [Sets; PLACES],
     pub(crate) constants: usize,
-    ghost some: { 0 < table.count },
+    ghost some: { 0 < length table.forms.items },
     ghost few_constants: { constants ≤ 32 },
-    ghost once: { (k : ℕ) → k < table.count → part_once table.forms table.count k ≡ true },
-    ghost levels_of: { HasLevels table.forms table.count levels },
-    ghost ranged: { (k : ℕ) → k < table.count → range_kept table.forms table.count constants k ≡ true },
-    ghost sets_of: { HasSets table.forms sets },
-    ghost rules: { keeps constants (tree_at table.forms (table.count - 1)) ≡ true },
+    ghost once: { (k : ℕ) → k < length table.forms.items → part_once table.forms.items k ≡ true },
+    ghost levels_of: { HasLevels table.forms.items levels },
+    ghost ranged: { (k : ℕ) → k < length table.forms.items → range_kept table.forms.items constants k ≡ true },
+    ghost sets_of: { HasSets table.forms.items sets },
+    ghost rules: { keeps constants (tree_at table.forms.items (length table.forms.items - 1)) ≡ true },
 }
 
 impl Expression {
     // The smallest expression: one place, a node without arrows, and no constant.
     pub fn new() -> Expression
-        ensures table { result.table.forms ≡ slice_set (replicate 64 NoPlace) 0 OneNode }
-        ensures sizes { (result.table.count ≡ 1) × (result.constants ≡ 0) }
+        ensures table { result.table.forms.items ≡ OneNode ∷ [] }
+        ensures constants { result.constants ≡ 0 }
     {
         let table = Table::one_node();
         let sets = table.sets();

@@ -4,9 +4,10 @@ use crate::term::Term;
 // A place of an expression: its form, with its terms, its marker or variable, and the places of
 // its parts. Each form's letter is the first of its name. Zero comes first, so that a place past
 // the end of a table reads as one that stands for nothing.
-#[derive(Clone, Copy, Debug, PartialEq, Eq, Hash)]
+#[derive(Clone, Copy, Debug, Default, PartialEq, Eq, Hash)]
 pub enum Form {
     // no node at all
+    #[default]
     Zero,
     // a node without arrows
     Node,

@@ -71,13 +71,13 @@ impl Table {
     // The level of each place, from the last place down: where a place is reached, its one user has
     // given it its level.
     pub(crate) fn levels(&self) -> [usize; PLACES]
-        requires some { 0 < self.now.count }
-        requires once { (p : ℕ) → p < self.now.count → part_once self.now.forms self.now.count p ≡ true }
-        ensures { HasLevels self.now.forms self.now.count result }
+        requires some { 0 < length self.now.forms.items }
+        requires once { (p : ℕ) → p < length self.now.forms.items → part_once self.now.forms.items p ≡ true }
+        ensures { HasLevels self.now.forms.items result }
     {
         let mut levels = [0; PLACES];
         // Kept by number: a place's level is read, and lower places' are written, in one array.
-        for place in (0..self.count).rev() {
+        for place in (0..self.forms.len()).rev() {
             let level = levels[place];
             give_levels(&mut levels, self.forms[place], level);
         }
@@ -90,10 +90,10 @@ impl Table {
         levels: &[usize; PLACES],
         constants: usize,
     ) -> Result<(), Refusal>
-        requires { HasLevels self.now.forms self.now.count levels.now }
-        ensures { result ≡ told OutOfRange (lowest self.now.count (range_kept self.now.forms self.now.count constants)) }
+        requires { HasLevels self.now.forms.items levels.now }
+        ensures { result ≡ told OutOfRange (lowest (length self.now.forms.items) (range_kept self.now.forms.items constants)) }
     {
-        (0..self.count)
+        (0..self.forms.len())
             .find(|&place| !in_range(self.forms[place], levels[place], constants))
             .map_or(Ok(()), |place| Err(Refusal::OutOfRange(place)))
     }

@@ -1,6 +1,6 @@
 // What an admitted expression answers of its places.
 ghost use Rattle.std.specs.Prelude.{◌≡◌, ◌<◌, ◌≤◌, true, if◌then◌else◌, Some as Present, None as Absent, nat_lt};
-ghost use Rattle.expression.specs.Admitted.{tree_of, whole_of, form_of};
+ghost use Rattle.expression.specs.Admitted.{tree_of, count_of, whole_of, form_of};
 ghost use Rattle.expression.specs.Forms.{Lower, grown, ins as tree_ins, outs as tree_outs};
 ghost use Rattle.expression.specs.Sets.{sets_at};
 ghost use Rattle.expression.specs.Law.{Lawful, level_of};
@@ -13,11 +13,11 @@ use crate::sets::Sets;
 impl Expression {
     // How many places the expression has. Whatever expression this is asked of keeps the law.
     pub fn count(&self) -> usize
-        ensures value { result ≡ self.now.table.count }
+        ensures value { result ≡ count_of self.now }
         ensures bound { (0 < result) × (result ≤ 64) }
         ensures law { Lawful self.now }
     {
-        self.table.count
+        self.table.forms.len()
     }
 
     // How many constants the expression has.
@@ -48,9 +48,12 @@ impl Expression {
 
     // The sets of a place; past the end those of a Zero.
     fn sets(&self, place: usize) -> Sets
-        ensures { result ≡ sets_at self.now.table.forms place }
+        ensures { result ≡ sets_at self.now.table.forms.items place }
     {
-        self.sets.get(place).copied().unwrap_or(Sets::EMPTY)
+        self.sets[..self.count()]
+            .get(place)
+            .copied()
+            .unwrap_or(Sets::EMPTY)
     }
 
     // The in-set of a place.
@@ -69,7 +72,7 @@ impl Expression {
 
     // The level of a place; none past the end.
     pub fn level(&self, place: usize) -> Option<usize>
-        ensures { result ≡ (if nat_lt place self.now.table.count then Present (level_of self.now place) else Absent) }
+        ensures { result ≡ (if nat_lt place (count_of self.now) then Present (level_of self.now place) else Absent) }
     {
         self.levels[..self.count()].get(place).copied()
     }

@@ -63,7 +63,7 @@ impl Sets {
 impl Table {
     // The sets of each place, from the first place up.
     pub(crate) fn sets(&self) -> [Sets; PLACES]
-        ensures { HasSets self.now.forms result }
+        ensures { HasSets self.now.forms.items result }
     {
         let mut sets = [Sets::EMPTY; PLACES];
         for (place, form) in self.forms.iter().enumerate() {

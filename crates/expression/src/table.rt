@@ -1,25 +1,25 @@
 // Raw places read into a table of forms.
-ghost use Rattle.std.specs.Prelude.{◌≡◌, ℕ, ◌≤◌, true, length, replicate, Ok as Passed, Err as Refused, IfOk, MatchResult, slice_index_or, slice_set};
+ghost use Rattle.std.specs.Prelude.{◌≡◌, ℕ, ◌≤◌, true, [], ◌∷◌, length, Ok as Passed, Err as Refused, IfOk, MatchResult, slice_index_or};
 ghost use Rattle.std.proofs.lemmas.Map.Entries.{option_filter};
 ghost use Rattle.expression.specs.declared.form.Form.TheVariants.{Zero as NoPlace, Node as OneNode};
 ghost use Rattle.expression.specs.Forms.{lower};
 ghost use Rattle.expression.specs.Raw.{read};
-ghost use Rattle.expression.specs.Admission.{padded, formed};
+ghost use Rattle.expression.specs.Admission.{table_read, formed};
+ghost use Rattle.arrayvec.specs.ArrayVec.{array_vec_len};
 
 use crate::expression::PLACES;
 use crate::form::Form;
 use crate::raw::RawPlace;
 use crate::refusal::Refusal;
+use arrayvec::ArrayVec;
 
-// The forms of the places in use, and Zeros after them; the parts of each stand at lower places.
+// The forms of the places; the parts of each stand at lower places. They lie in the table itself,
+// so that reading one cannot fail for memory.
 #[derive(Drop)]
 pub(crate) struct Table {
-    pub(crate) forms: [Form; PLACES],
-    pub(crate) count: usize,
-    ghost sized: { length forms ≡ 64 },
-    ghost counted: { count ≤ 64 },
-    ghost rest: { (k : ℕ) → count ≤ k → slice_index_or forms k NoPlace ≡ NoPlace },
-    ghost lower_parts: { (k : ℕ) → lower k (slice_index_or forms k NoPlace) ≡ true },
+    pub(crate) forms: ArrayVec<Form, PLACES>,
+    ghost few: { array_vec_len forms ≤ 64 },
+    ghost lower_parts: { (k : ℕ) → lower k (slice_index_or forms.items k NoPlace) ≡ true },
 }
 
 // The form that a raw place names, if its parts stand lower than the place.
@@ -32,12 +32,11 @@ fn form_at(raw: &RawPlace, place: usize) -> Option<Form>
 impl Table {
     // A node at the first place.
     pub(crate) fn one_node() -> Table
-        ensures forms { result.forms ≡ slice_set (replicate 64 NoPlace) 0 OneNode }
-        ensures count { result.count ≡ 1 }
+        ensures { result.forms.items ≡ OneNode ∷ [] }
     {
-        let mut forms = [Form::Zero; PLACES];
-        forms[0] = Form::Node;
-        Table { forms, count: 1 }
+        let mut forms = ArrayVec::new();
+        forms.push(Form::Node);
+        Table { forms }
     }
 
     // The table of the forms that the raw places name. Refuses the lowest place that names none or
@@ -45,15 +44,13 @@ impl Table {
     pub(crate) fn read(raw: &[RawPlace]) -> Result<Table, Refusal>
         requires { length raw.now ≤ 64 }
         ensures answer { MatchResult result (λ _. formed raw.now ≡ Passed tt) (λ refusal. formed raw.now ≡ Refused refusal) }
-        ensures table { IfOk result (λ table. (table.forms ≡ padded raw.now) × (table.count ≡ length raw.now)) }
+        ensures table { IfOk result (λ table. table.forms.items ≡ table_read raw.now) }
     {
-        let mut forms = [Form::Zero; PLACES];
+        let mut forms = ArrayVec::new();
         for (place, raw_place) in raw.iter().enumerate() {
-            forms[place] = form_at(raw_place, place).ok_or(Refusal::IllFormed(place))?;
+            let form = form_at(raw_place, place).ok_or(Refusal::IllFormed(place))?;
+            forms.push(form);
         }
-        Ok(Table {
-            forms,
-            count: raw.len(),
-        })
+        Ok(Table { forms })
     }
 }

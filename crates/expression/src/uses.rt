@@ -24,10 +24,10 @@ fn count_parts(counts: &mut [usize], parts: Parts)
 impl Table {
     // How often each place is a part.
     fn uses(&self) -> [usize; PLACES]
-        ensures { (p : ℕ) → p < 64 → slice_index result p ≡ uses self.now.forms self.now.count p }
+        ensures { (p : ℕ) → p < 64 → slice_index result p ≡ uses self.now.forms.items (length self.now.forms.items) p }
     {
         let mut counts = [0; PLACES];
-        for form in &self.forms[..self.count] {
+        for form in self.forms.iter() {
             count_parts(&mut counts, form.parts());
         }
         counts
@@ -35,11 +35,11 @@ impl Table {
 
     // Refuses the lowest place that is not a part exactly once, or that is the last and a part.
     pub(crate) fn check_uses(&self) -> Result<(), Refusal>
-        ensures { result ≡ told NotPartOnce (lowest self.now.count (part_once self.now.forms self.now.count)) }
+        ensures { result ≡ told NotPartOnce (lowest (length self.now.forms.items) (part_once self.now.forms.items)) }
     {
         let uses = self.uses();
-        (0..self.count)
-            .find(|&place| uses[place] != usize::from(place + 1 != self.count))
+        (0..self.forms.len())
+            .find(|&place| uses[place] != usize::from(place + 1 != self.forms.len()))
             .map_or(Ok(()), |place| Err(Refusal::NotPartOnce(place)))
     }
 }

@@ -8,10 +8,11 @@ use Rattle.expression.proofs.expression.Expression.form.Goals as goal
 pub returns : goal.returns
 returns c =
     let table = c.args.self.now.table in
+    let ps = table.forms.items in
     let p = c.args.place in
-    let is : c.unwrap_or.result ≡ get_or table.forms p Zero = search rules in
+    let is : c.unwrap_or.result ≡ get_or ps p Zero = search rules in
     record {
       value = is;
-      tree = unrolls table.forms table.lower_parts p ∙ ap (λ (q : Form). grown q p (tree_at table.forms)) (sym is);
-      low = subst (Lower p) (sym is) (lower_tells p (get_or table.forms p Zero) (table.lower_parts p));
+      tree = unrolls ps table.lower_parts p ∙ ap (λ (q : Form). grown q p (tree_at ps)) (sym is);
+      low = subst (Lower p) (sym is) (lower_tells p (get_or ps p Zero) (table.lower_parts p));
     }

@@ -1,20 +1,22 @@
-use Rattle.std.proofs.Common.{◌≡◌, ℕ, ◌<◌, ◌≢◌, List, length, get_or, Err, Some, None, sym, refl, ap, ◌∙◌, subst, not-suc-le-zero, arith, rules, length-set, get_or-set_other}
-use Rattle.expression.specs.declared.form.Form.TheVariants.{Zero}
+use Rattle.std.proofs.Common.{◌≡◌, ℕ, ◌<◌, List, [], ◌∷◌, ◌++◌, length, get_or, take, Err, Some, None, sym, refl, ap, ◌∙◌, ap₂, subst, arith, rules}
+use Rattle.std.proofs.lemmas.List.{map_more, length-map, length-take-le}
+use Rattle.std.proofs.Math.Seq.{take-length}
 use Rattle.expression.specs.declared.form.Form.{Form}
+use Rattle.expression.specs.declared.form.Form.TheVariants.{Zero}
+use Rattle.expression.specs.declared.raw.RawPlace.{RawPlace}
 use Rattle.expression.specs.declared.refusal.Refusal.TheVariants.{IllFormed}
+use Rattle.expression.specs.Raw.{form_read}
 use Rattle.expression.specs.Forms.{lower}
-use Rattle.expression.specs.Admission.{padded, well_formed, lowest, told}
-use Rattle.expression.proofs.Filling.{filled_more}
+use Rattle.expression.specs.Admission.{table_read, well_formed, lowest, told}
 use Rattle.expression.proofs.Lowest.{lowest_none, lowest_more, lowest_found}
-use Rattle.expression.proofs.Padding.{well_formed_by, padded_by, padded_from, padded_lower, read_some, read_none, zeros_at}
+use Rattle.expression.proofs.Forming.{well_formed_by, read_lower, read_some, read_none}
 use Rattle.expression.proofs.table.Table.read.Goals as goal
 
 pub loop-place-init : goal.loop-place-init
-loop-place-init c =
-    (refl, lowest_none (well_formed c.args.raw.now), (λ k l. absurd (not-suc-le-zero l)), λ k l. zeros_at 64 k)
+loop-place-init c = (c.new-forms.ensures, lowest_none (well_formed c.args.raw.now))
 
-pub returns-in_err-forms : goal.returns-in_err-forms
-returns-in_err-forms c =
+pub returns-in_err-form : goal.returns-in_err-form
+returns-in_err-form c =
     let raw = c.args.raw.now in
     let i = c.loop-place.place in
     let h : i < length raw = omega arith in
@@ -23,19 +25,21 @@ returns-in_err-forms c =
     let is : c.from_residual.result ≡ Err (IllFormed i) = search rules in
     record { answer = rw is (ap (told IllFormed) found); table = rw is tt }
 
+pub push-requires : goal.push-requires
+push-requires c =
+    let raw = c.args.raw.now in
+    let i = c.loop-place.place in
+    omega (arith, ap length c.loop-place.invariant.0, length-map (take i raw) form_read, length-take-le i raw (omega arith), c.requires)
+
 pub loop-place-preserved : goal.loop-place-preserved
 loop-place-preserved c =
     let raw = c.args.raw.now in
     let i = c.loop-place.place in
     let h : i < length raw = omega arith in
-    let lt : i < length c.loop-place.forms = omega arith in
-    let some : Some c.in_ok-forms.field-0 ≡ c.form_at.result = search rules in
-    let read = read_some i _ c.in_ok-forms.field-0 (some ∙ c.form_at.ensures) in (
-      simp length-set c.loop-place.invariant.0,
+    let some : Some c.in_ok-form.form ≡ c.form_at.result = search rules in
+    let read = read_some i _ c.in_ok-form.form (some ∙ c.form_at.ensures) in (
+      c.push.ensures.items ∙ ap₂ (λ (qs : List Form) (q : Form). qs ++ q ∷ []) c.loop-place.invariant.0 read.1 ∙ sym (map_more form_read raw i _ h),
       lowest_more (well_formed raw) i c.loop-place.invariant.1 (well_formed_by raw i _ _ h refl ∙ read.0),
-      filled_more c.loop-place.forms i c.in_ok-forms.field-0 Zero (λ k. get_or (padded raw) k Zero) lt c.loop-place.invariant.2
-          (read.1 ∙ sym (padded_by raw i _ _ h refl)),
-      λ k l. let ne : k ≢ i = omega arith in rw get_or-set_other (c.loop-place.invariant.3 k (omega arith)),
     )
 
 -- what the walk comes to
@@ -45,12 +49,10 @@ invariant_of-result c =
     let loop = c.loop-place in
     let e : loop.place ≡ length raw = omega arith in
     let none = subst (λ (n : ℕ). lowest n (well_formed raw) ≡ None) e loop.invariant.1 in
-    let is = padded_from raw loop.forms c.requires loop.invariant.0 (λ k l. loop.invariant.2 k (omega arith)) (λ k l. loop.invariant.3 k (omega arith)) in
+    let is = loop.invariant.0 ∙ ap (λ (n : ℕ). table_read (take n raw)) e ∙ ap table_read (take-length raw) in
     record {
-      sized = loop.invariant.0;
-      counted = c.requires;
-      rest = λ k l. loop.invariant.3 k (omega arith);
-      lower_parts = λ k. ap (λ (t : List Form). lower k (get_or t k Zero)) is ∙ padded_lower raw none k;
+      few = omega (arith, ap length is, length-map raw form_read, c.requires);
+      lower_parts = λ k. ap (λ (ps : List Form). lower k (get_or ps k Zero)) is ∙ read_lower raw none k;
     }
 
 pub returns : goal.returns
@@ -61,8 +63,5 @@ returns c =
     let none = subst (λ (n : ℕ). lowest n (well_formed raw) ≡ None) e loop.invariant.1 in
     record {
       answer = ap (told IllFormed) none;
-      table = (
-        padded_from raw loop.forms c.requires loop.invariant.0 (λ k l. loop.invariant.2 k (omega arith)) (λ k l. loop.invariant.3 k (omega arith)),
-        refl,
-      );
+      table = loop.invariant.0 ∙ ap (λ (n : ℕ). table_read (take n raw)) e ∙ ap table_read (take-length raw);
     }
