@@ -11,7 +11,7 @@ use kinds::label::Label;
 impl Bench {
     // Asks the label for the row, in the place of what was asked for it. Asking the label that the
     // row shows removes its edit.
-    // The four tables are kept apart here: one is written, and the others are lent for reading only.
+    // Kept with the four tables apart: one is written, and the others are lent for reading only.
     pub fn mark<L: Label>(
         &mut self,
         slip: &Slip,

@@ -34,7 +34,7 @@ impl<L: Label> Tables<'_, L> {
 }
 
 impl Bench {
-    // How many arrows the source has; none where nothing is opened.
+    // How many arrows the source has; 0 where nothing is opened.
     pub(crate) fn count_arrows(&self) -> usize
         ensures { result ≡ length (ends_of self.now.source) }
     {

@@ -27,7 +27,7 @@ impl fmt::Display for Unread {
     fn fmt<W: fmt::Write>(&self, f: &mut fmt::Formatter<W>) -> fmt::Result {
         match self {
             Unread::BadLine(line) => write!(f, "bad line {line}"),
-            Unread::OutOfMemory => write!(f, "out of memory"),
+            Unread::OutOfMemory => write!(f, "memory allocation failed"),
         }
     }
 }

@@ -34,7 +34,7 @@ impl FromStr for KindName {
 }
 
 // The command that a verb and its kind ask for; a verb without a kind has the empty one.
-// Kept as an empty word: one that is typed as an empty word asks for no kind either.
+// Kept as an empty word: a kind that is typed as one counts as none too.
 fn asked(verb: &str, kind: &str) -> Option<Command> {
     match (verb, kind) {
         ("labels", kind) => kind.parse().ok().map(Command::Labels),

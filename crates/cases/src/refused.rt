@@ -2,7 +2,7 @@
 use crate::cabinet::{Cabinet, Written};
 use crate::loops::Loops;
 use crate::screen::{Detail, Screen, admit_places};
-use anyhow::anyhow;
+use anyhow::Context;
 use course::source::Source;
 
 // A cabinet of one arrow and one constant.
@@ -23,9 +23,7 @@ fn show_short(screen: &mut Screen, name: &str, tables: &Written) -> anyhow::Resu
     let cabinet = Cabinet::read(heap, &written("0,1,North", "Site"))?;
     let tables = Cabinet::read(heap, tables)?;
     let expression = admit_places(&cabinet)?;
-    let source = Source::new(cabinet.nodes, cabinet.arrows.as_slice()).map_err(|_| anyhow!(
-        "a source is refused"
-    ))?;
+    let source = Source::new(cabinet.nodes, cabinet.arrows.as_slice()).context("a source is refused")?;
     screen.show_labelled(
         &source,
         &expression,

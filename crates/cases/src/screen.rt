@@ -1,6 +1,6 @@
 // Makes the view of a cabinet and prints it.
 use crate::cabinet::Cabinet;
-use anyhow::anyhow;
+use anyhow::Context;
 use course::source::Source;
 use expression::admit::admit;
 use expression::expression::Expression;
@@ -28,9 +28,7 @@ pub struct Screen<'a> {
 pub fn admit_places(cabinet: &Cabinet) -> anyhow::Result<Expression> {
     let mut expression = Expression::new();
     let constants = cabinet.constants.len();
-    admit(cabinet.places.as_slice(), constants, &mut expression).map_err(|_| anyhow!(
-        "an expression is not admitted"
-    ))?;
+    admit(cabinet.places.as_slice(), constants, &mut expression).context("an expression is not admitted")?;
     Ok(expression)
 }
 

@@ -2,7 +2,7 @@
 use crate::cabinet::{Cabinet, Written};
 use crate::expressions::*;
 use crate::screen::{Detail, Screen, admit_places};
-use anyhow::anyhow;
+use anyhow::Context;
 use course::source::Source;
 use kinds::setting::{Setting, SettingLabel};
 
@@ -65,9 +65,7 @@ fn show_settings(screen: &mut Screen) -> anyhow::Result<()> {
         label(Setting::Seconds(0.0)),
     ];
     let constants = [label(Setting::Seconds(0.0))];
-    let source = Source::new(3, &[(0, 1), (1, 2), (1, 2)]).map_err(|_| anyhow!(
-        "a source is refused"
-    ))?;
+    let source = Source::new(3, &[(0, 1), (1, 2), (1, 2)]).context("a source is refused")?;
     screen.show_labelled(&source, &expression, &labels, &constants, Detail::All)
 }
 

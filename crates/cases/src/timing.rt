@@ -3,7 +3,7 @@ use crate::cabinet::{Cabinet, Written};
 use crate::expressions::*;
 use crate::loops::Loops;
 use crate::screen::{Screen, admit_places};
-use anyhow::anyhow;
+use anyhow::Context;
 use course::course::Sizes;
 use course::source::Source;
 use std::time::Instant;
@@ -20,16 +20,14 @@ fn show_often(screen: &mut Screen, cabinet: &Cabinet, source: &Source) -> anyhow
         screen
             .view
             .show(source, &expression, labels, constants)
-            .map_err(|_| anyhow!("a timed run is refused"))?;
+            .context("a timed run is refused")?;
     }
     Ok(())
 }
 
 // Tells the mean time of a view of a cabinet, with the sizes of its course.
 fn time_cabinet(screen: &mut Screen, name: &str, cabinet: &Cabinet) -> anyhow::Result<()> {
-    let source = Source::new(cabinet.nodes, cabinet.arrows.as_slice()).map_err(|_| anyhow!(
-        "a source is refused"
-    ))?;
+    let source = Source::new(cabinet.nodes, cabinet.arrows.as_slice()).context("a source is refused")?;
     let start = Instant::now(screen.rt)?;
     show_often(screen, cabinet, &source)?;
     let mean = start.elapsed(screen.rt)?.as_micros() / u128::from(TURNS);

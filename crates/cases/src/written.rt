@@ -1,6 +1,6 @@
 // Places, arrows and labels as they are written: `E,v1,0`, `0,1,North`.
-// Kept beside the reader of `cabinet`, which tells what a user wrote amiss: these texts are our own.
-use anyhow::{Context, anyhow};
+// Kept beside the reader of `cabinet`: that asks for each form's own fields, and this takes what comes.
+use anyhow::Context;
 use expression::raw::RawPlace;
 use expression::term::Term;
 use kinds::text::TextLabel;
@@ -8,7 +8,7 @@ use std::alloc::Global;
 
 // The label of a text.
 pub fn read_label(text: &str) -> anyhow::Result<TextLabel> {
-    TextLabel::make(text.as_bytes()).map_err(|_| anyhow!("a text is no label"))
+    TextLabel::make(text.as_bytes()).context("a text is no label")
 }
 
 // The labels that spaces part.
@@ -72,7 +72,7 @@ fn read_place(text: &str) -> anyhow::Result<RawPlace> {
     let letter = words
         .next()
         .and_then(|word| word.chars().next())
-        .unwrap_or(' ');
+        .context("a place lacks its letter")?;
     let mut fields = Fields {
         terms: [None; 2],
         numbers: [None; 2],

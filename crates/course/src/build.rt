@@ -29,7 +29,7 @@ impl Workspace {
         Ok(tail)
     }
 
-    // The same as an in-map.
+    // The node of an Edge, with its arrow, as an in-map.
     pub(crate) fn edge_node(
         &mut self,
         rule: Rule,

@@ -15,7 +15,7 @@ impl Classes {
     ghost use Rattle.course.specs.Labels.{class_of, by_class};
 
     // The class number of an origin's label.
-    // Kept as a number for a blank too: the rules compare numbers, and give a blank the number 0.
+    // Kept as a number for a blank too: the laws compare numbers, and no term that is compared is blank.
     fn class(&self, origin: Origin) -> u16
         ensures { result ≡ class_of self.now origin }
     {

@@ -27,69 +27,39 @@ pub struct Evaluator<'a> {
 impl<'a> Evaluator<'a> {
     ghost use Rattle.course.specs.Evaluators.{Fitting, Answers};
 
-    // The in-map of the rule's place, for each marker its node; the outs are put on the stack.
+    // The in-map of a place in a frame, for each marker its node; the outs are put on the stack.
     #[cycle(evaluation)]
-    pub(crate) fn evaluate(&self, rule: Rule, work: &mut Workspace) -> Result<[usize; 8], Full>
-        requires fitting { Fitting self.now self.now.env.level rule.place }
+    pub(crate) fn evaluate(
+        &self,
+        place: usize,
+        frame: usize,
+        work: &mut Workspace,
+    ) -> Result<[usize; 8], Full>
+        requires fitting { Fitting self.now self.now.env.level place }
         requires bound { Bound self.now.env (vec_len work.old.nodes) }
-        ensures { Answers self.now (tree_of self.now.expression.now rule.place) rule.frame work.old work.new result }
+        ensures { Answers self.now (tree_of self.now.expression.now place) frame work.old work.new result }
     {
-        match self.expression.form(rule.place) {
+        let rule = Rule { place, frame };
+        match self.expression.form(place) {
             Form::Zero => Ok([0; 8]),
             Form::Node => work.plain_node(rule),
             Form::Edge(term, inner) => {
-                let part = self.evaluate(
-                    Rule {
-                        place: inner,
-                        ..rule
-                    },
-                    work,
-                )?;
+                let part = self.evaluate(inner, frame, work)?;
                 work.edge_node(rule, self.env.origin(term), part[0])
             }
             Form::Union(first, second) => {
-                let left = self.evaluate(
-                    Rule {
-                        place: first,
-                        ..rule
-                    },
-                    work,
-                )?;
-                let right = self.evaluate(
-                    Rule {
-                        place: second,
-                        ..rule
-                    },
-                    work,
-                )?;
+                let left = self.evaluate(first, frame, work)?;
+                let right = self.evaluate(second, frame, work)?;
                 work.join(rule, self.expression.in_set(first), left, right)
             }
             Form::Mark(marker, inner) => {
-                let part = self.evaluate(
-                    Rule {
-                        place: inner,
-                        ..rule
-                    },
-                    work,
-                )?;
+                let part = self.evaluate(inner, frame, work)?;
                 Ok(only(marker, part[0]))
             }
             Form::Out(marker) => work.open_node(rule, marker),
             Form::Disjoint(first, second) => {
-                let left = self.evaluate(
-                    Rule {
-                        place: first,
-                        ..rule
-                    },
-                    work,
-                )?;
-                let right = self.evaluate(
-                    Rule {
-                        place: second,
-                        ..rule
-                    },
-                    work,
-                )?;
+                let left = self.evaluate(first, frame, work)?;
+                let right = self.evaluate(second, frame, work)?;
                 Ok(merge(self.expression.in_set(first), left, right))
             }
             Form::Append(first, second) => self.append(rule, first, second, work),
@@ -98,20 +68,8 @@ impl<'a> Evaluator<'a> {
                 let left = self.env.origin(one);
                 let right = self.env.origin(another);
                 match work.compare(rule, self.classes, left, right)? {
-                    Outcome::Same => self.evaluate(
-                        Rule {
-                            place: same,
-                            ..rule
-                        },
-                        work,
-                    ),
-                    Outcome::Other => self.evaluate(
-                        Rule {
-                            place: other,
-                            ..rule
-                        },
-                        work,
-                    ),
+                    Outcome::Same => self.evaluate(same, frame, work),
+                    Outcome::Other => self.evaluate(other, frame, work),
                 }
             }
             Form::Recursion(body, argument) => self.recur(rule, body, argument, work),
@@ -134,21 +92,9 @@ impl<'a> Evaluator<'a> {
         ensures { Answers self.now (t_append rule.place (tree_of self.now.expression.now first) (tree_of self.now.expression.now second)) rule.frame work.old work.new result }
     {
         let base = work.outs.len();
-        let above = self.evaluate(
-            Rule {
-                place: first,
-                ..rule
-            },
-            work,
-        )?;
+        let above = self.evaluate(first, rule.frame, work)?;
         let mid = work.outs.len();
-        let below = self.evaluate(
-            Rule {
-                place: second,
-                ..rule
-            },
-            work,
-        )?;
+        let below = self.evaluate(second, rule.frame, work)?;
         work.tie_outs(rule, base, mid, self.expression.in_set(second), below)?;
         work.cut_outs(base, mid);
         Ok(above)
@@ -172,13 +118,7 @@ impl<'a> Evaluator<'a> {
         ensures { Answers self.now (t_recursion rule.place (tree_of self.now.expression.now body) (tree_of self.now.expression.now argument)) rule.frame work.old work.new result }
     {
         let before = work.extent();
-        let part = self.evaluate(
-            Rule {
-                place: argument,
-                ..rule
-            },
-            work,
-        )?;
+        let part = self.evaluate(argument, rule.frame, work)?;
         work.drop_outs(before.outs);
         let after = work.extent();
         let hubs = work.find_hubs(rule, part[0], after.nodes, self.expression.in_set(body));

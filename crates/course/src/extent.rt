@@ -4,7 +4,7 @@ ghost use Rattle.std.specs.Prelude.{◌≡◌, vec_len};
 use crate::workspace::Workspace;
 
 // How many nodes, arrows and outs there are at a time.
-#[derive(Clone, Copy)]
+#[derive(Clone, Copy, Debug, PartialEq, Eq)]
 pub struct Extent {
     pub nodes: usize,
     pub arrows: usize,

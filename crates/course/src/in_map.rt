@@ -1,5 +1,5 @@
 // In-maps: for each of the eight markers its node, with 0 outside the in-set.
-// Kept as numbers: only the markers of the in-set are read, and the rules count 0 at the others.
+// Kept as numbers: only the markers of the in-set are read; an Option would be taken apart each time.
 ghost use Rattle.std.specs.Prelude.{◌≡◌, ◌<◌};
 ghost use Rattle.course.specs.Forward.{only as only_at, merged};
 

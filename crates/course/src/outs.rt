@@ -40,7 +40,7 @@ impl Workspace {
         Ok(())
     }
 
-    // The same from each of the outs from base up to mid.
+    // Blank arrows from each of the outs from base up to mid to the nodes for their markers.
     pub(crate) fn tie_outs(
         &mut self,
         rule: Rule,

@@ -4,6 +4,7 @@ ghost use Rattle.course.specs.Printed.{origin_text, outcome_text, node_text, arr
 
 use crate::course::{Arrow, Comparison, Frame, Full, Node, Origin, Outcome, Sizes};
 use crate::source::SourceFault;
+use std::error::Error;
 use std::fmt;
 
 // `a0` for a source arrow, `c0` for a constant, `-` for none.
@@ -116,3 +117,7 @@ impl fmt::Display for SourceFault {
         }
     }
 }
+
+impl Error for Full {}
+
+impl Error for SourceFault {}

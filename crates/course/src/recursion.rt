@@ -8,7 +8,6 @@ ghost use Rattle.course.specs.Reach.{lost};
 use crate::course::{Arrow, Full};
 use crate::evaluate::Evaluator;
 use crate::hub_table::Hubs;
-use crate::rule::Rule;
 use crate::workspace::Workspace;
 
 // A recursion whose hubs are made: the evaluator around it, the place of its body and its hubs.
@@ -75,11 +74,7 @@ impl<'a, 'b> Recursion<'a, 'b> {
             env: self.around.env.deeper(arrow.origin, arrow.head),
         };
         let frame = work.add_frame(hubs.rule, k)?;
-        let rule = Rule {
-            place: self.body,
-            frame,
-        };
-        let into = inside.evaluate(rule, work)?;
+        let into = inside.evaluate(self.body, frame, work)?;
         work.link_all(hubs.rule, hubs.set, hubs.in_map(arrow.tail), into)?;
         let end = work.outs.len();
         work.tie_outs(hubs.rule, base, end, hubs.set, hubs.in_map(arrow.head))?;

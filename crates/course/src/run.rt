@@ -11,7 +11,6 @@ use crate::classes::Classes;
 use crate::course::{ARROWS, COMPARISONS, FRAMES, Full, NODES};
 use crate::environment::Environment;
 use crate::evaluate::Evaluator;
-use crate::rule::Rule;
 use crate::source::Source;
 use crate::workspace::Workspace;
 use expression::expression::Expression;
@@ -56,11 +55,7 @@ impl Workspace {
             classes,
             env: Environment::outermost(),
         };
-        let rule = Rule {
-            place: expression.whole(),
-            frame: 0,
-        };
-        match evaluator.evaluate(rule, self) {
+        match evaluator.evaluate(expression.whole(), 0, self) {
             Ok(into) => Ok(into[0]),
             Err(full) => {
                 self.clear();

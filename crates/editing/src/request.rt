@@ -66,6 +66,7 @@ pub struct Commits {
 }
 
 // What a bench answers.
+// Kept with the refusal as a case: a run of calls is a list of answers, refusals among them.
 #[derive(Clone, Copy, Debug, PartialEq, Eq)]
 pub enum Answer<L> {
     // begin: a slip of this number

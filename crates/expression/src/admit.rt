@@ -42,7 +42,7 @@ pub fn admit(raw: &[RawPlace], constants: usize, into: &mut Expression) -> Resul
     ensures answer { result ≡ admission raw.now constants }
     ensures written { MatchResult result (λ _. Holds raw.now constants into.new) (λ _. into.new ≡ into.old) }
 {
-    // Kept as a write into a lent place: callers reuse one place, and no run takes heap.
+    // Kept as a write into a lent place: the call promises that a refusal leaves what was there.
     let expression = examine(raw, constants)?;
     *into = expression;
     Ok(())

@@ -28,7 +28,6 @@ impl RawPlace {
     pub fn form(&self) -> Option<Form>
         ensures { result ≡ read self.now }
     {
-        // Kept as a match by letter: each form takes other fields, and one line tells which.
         match self.letter {
             'A' => Some(Form::Append(self.part, self.other_part)),
             'D' => Some(Form::Disjoint(self.part, self.other_part)),

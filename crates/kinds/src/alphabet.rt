@@ -3,7 +3,7 @@ ghost use Rattle.std.specs.Prelude.{◌≡◌};
 ghost use Rattle.kinds.specs.Texts.{house};
 
 // For each byte whether it is in the alphabet.
-// Kept as a table: it is a rule here that a test of a byte looks it up in a constant table.
+// Kept as a table of flags: it is a decision here that one look tells each byte.
 const HOUSE: [bool; 256] = [
     // 0x00 to 0x0F: none
     false, false, false, false, false, false, false, false, false, false, false, false, false,

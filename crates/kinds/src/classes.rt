@@ -21,7 +21,7 @@ pub fn class_numbers<L: Label>(labels: &[L], classes: &mut [usize]) -> bool
     if classes.len() < labels.len() {
         return false;
     }
-    // Written by index: a proof knows nothing of a slice after a loop over `iter_mut().zip(..)`.
+    // Kept as a write by index: after `iter_mut().zip(..)` no proof knows what the slice holds.
     for (i, label) in labels.iter().enumerate() {
         // A label is the same as itself, so there is one.
         classes[i] = lowest_same(labels, label).unwrap_or(i);

@@ -3,6 +3,7 @@ ghost use Rattle.std.specs.Prelude.{◌≡◌, Some as Prints};
 ghost use Rattle.std.specs.Fmt.{decimal};
 ghost use Rattle.kinds.specs.Refusals.{number_of};
 
+use std::error::Error;
 use std::fmt;
 
 #[derive(Clone, Copy, Debug, PartialEq, Eq, Hash)]
@@ -30,3 +31,5 @@ impl fmt::Display for Refusal {
         write!(f, "{}", self.number())
     }
 }
+
+impl Error for Refusal {}

@@ -1,4 +1,4 @@
-// Views: the forward run of an expression over a source, and the laws that it keeps.
+// The laws of the forward run of an expression over a source.
 #![tactic(auto)]
 
 pub mod laws;

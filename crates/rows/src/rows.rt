@@ -96,6 +96,7 @@ impl Rows {
     }
 
     // Adds the rows that the arrows show from the root.
+    // Kept with arrows, nodes and root apart: the call that lists rows is handed them so.
     fn list_shown(&mut self, arrows: &[Arrow], nodes: usize, root: usize) -> Result<(), RowsFault>
         requires { fits arrows.now nodes root ≡ true }
         ensures { Grown self.old.rows.items (rows_of arrows.now nodes root) self.new.rows.items result }

@@ -4,7 +4,8 @@
 --   ByArrow ms m c         c is the lowest source arrow whose label has the meaning m
 --   ByConstant ms ns m c   no source arrow's label has the meaning m, and c is 256 and the lowest constant that has it
 --   Nowhere ms ns m        no label has it
---   Numbered ms ns m c     c is the class number of a label with the meaning m
+--   Found ms ns m c        a label with the meaning m stands in one of the tables, and c is its class number
+--   Numbered ms ns m c     c is the class number of a label with the meaning m; of one that stands in neither, any number
 --   NumberedBelow meaning as ks ls cs n    of the source arrows' labels as and the constants ks, cs has the class number
 --                          of each of the first n labels of ls
 --   AllNumbered meaning as ks ls cs    it has those of all of them
@@ -27,6 +28,9 @@ pub record ByConstant {M : Type 0} (ms ns : List M) (m : M) (c : ℕ) : Type 0 w
 pub record Nowhere {M : Type 0} (ms ns : List M) (m : M) : Type 0 where
   pub no_arrow : Absent ms m (length ms)
   pub no_constant : Absent ns m (length ns)
+
+abbrev pub Found : {M : Type 0} → List M → List M → M → ℕ → Type 0
+Found ms ns m c = ByArrow ms m c ⊎ ByConstant ms ns m c
 
 abbrev pub Numbered : {M : Type 0} → List M → List M → M → ℕ → Type 0
 Numbered ms ns m c = ByArrow ms m c ⊎ (ByConstant ms ns m c ⊎ Nowhere ms ns m)

@@ -2,18 +2,14 @@
 ghost use Rattle.std.specs.Prelude.{◌≡◌};
 ghost use Rattle.view.specs.Cases.{WorkedCases};
 
-// Each worked case of the list is shown of the rules.
-fn show_cases()
-    ensures { WorkedCases }
-{}
+// How many worked cases there are besides those of the expressions and of the courses.
+const CASES: usize = 8;
 
-// Shows the worked cases, and answers how many there are besides those of the expressions and of
-// the courses.
+// Shows each worked case of the list of the rules, and answers how many there are besides those of
+// the expressions and of the courses.
 pub fn worked_cases() -> usize
     ensures number { result ≡ 8 }
     ensures cases { WorkedCases }
 {
-    let shown = 8;
-    show_cases();
-    shown
+    CASES
 }

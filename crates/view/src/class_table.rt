@@ -1,7 +1,7 @@
 // The class numbers of a source's labels and an expression's constants.
 ghost use Rattle.std.specs.Prelude.{◌≡◌, ◌≤◌, map, length, MatchOption};
 ghost use Rattle.laws.specs.Labelling.{Tells};
-ghost use Rattle.view.specs.Numbers.{Nowhere, Numbered, AllNumbered};
+ghost use Rattle.view.specs.Numbers.{Nowhere, Found, AllNumbered};
 
 use course::classes::Classes;
 use course::source::SOURCE_ARROWS;
@@ -22,7 +22,7 @@ impl<'a, L: Label> LabelTables<'a, L> {
     // the lowest constant that is the same; none for a label that stands in neither table.
     fn class_of(&self, label: &L) -> Option<u16>
         ensures { MatchOption result (Nowhere (map L.meaning self.now.labels.now) (map L.meaning self.now.constants.now) (L.meaning label.now))
-            (Numbered (map L.meaning self.now.labels.now) (map L.meaning self.now.constants.now) (L.meaning label.now)) }
+            (Found (map L.meaning self.now.labels.now) (map L.meaning self.now.constants.now) (L.meaning label.now)) }
     {
         if let Some(arrow) = lowest_same(self.labels, label) {
             return Some(arrow as u16);

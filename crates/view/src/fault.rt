@@ -3,6 +3,7 @@ ghost use Rattle.std.specs.Prelude.{◌≡◌, Some as Prints};
 ghost use Rattle.view.specs.Faults.{told, printed};
 
 use course::course::Full;
+use std::error::Error;
 use std::fmt;
 
 // The first check that failed.
@@ -51,3 +52,5 @@ impl fmt::Display for ViewFault {
         }
     }
 }
+
+impl Error for ViewFault {}

@@ -6,7 +6,7 @@ use Rattle.course.proofs.Loops.{Going}
 use Rattle.course.proofs.+evaluation.Given as goal
 
 abbrev pub decreases-evaluate::Evaluator::evaluate : goal.decreases-evaluate::Evaluator::evaluate
-decreases-evaluate::Evaluator::evaluate l = 7 * l.rule.place + 6
+decreases-evaluate::Evaluator::evaluate l = 7 * l.place + 6
 
 abbrev pub decreases-evaluate::Evaluator::append : goal.decreases-evaluate::Evaluator::append
 decreases-evaluate::Evaluator::append l = 7 * l.rule.place + 5
