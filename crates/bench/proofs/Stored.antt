@@ -1,5 +1,5 @@
 -- What a bench stores, read by number: the edits of its draft, and how many commits are undone. Assumes nothing.
-use Rattle.std.proofs.Common.{◌≡◌, ℕ, zero, suc, ◌+◌, ◌-◌, ◌≤◌, List, [], ◌∷◌, length, drop, Some, None, Option, Bor, sym, refl, ap, ◌∙◌, arith}
+use Rattle.std.proofs.Common.{◌≡◌, Bool, Ok, ℕ, zero, suc, ◌+◌, ◌-◌, ◌≤◌, List, [], ◌∷◌, length, drop, Some, None, Option, Bor, sym, refl, ap, ◌∙◌, arith}
 use Rattle.std.specs.List.{slice_get}
 use Rattle.std.specs.Option.{option_map, option_copied}
 use Rattle.std.specs.Slice.{IsItemAt}
@@ -8,16 +8,21 @@ use Rattle.std.proofs.lemmas.Option.{slice_get_past, slice_get_read}
 use Rattle.arrayvec.specs.ArrayVec.{array_vec_len}
 use Rattle.rows.specs.declared.row.Row.{Row}
 use Rattle.editing.specs.Model.{how_many}
+use Rattle.bench.specs.declared.bench.Bench.{Bench}
 use Rattle.bench.specs.declared.draft.Draft.{Draft}
 use Rattle.bench.specs.declared.history.History.{History}
 use Rattle.bench.specs.Edits.{edit_for, paired_edits}
-use Rattle.bench.specs.Reading.{draft_of, commits_of, history_of}
+use Rattle.bench.specs.Reading.{Lists, draft_of, commits_of, history_of, short, ready}
 use Rattle.bench.proofs.DraftEdits.{edits_length}
 
 -- what `get` lends of a list, copied
 pub copied_item : {X : Type 0} (xs : List X) (i : ℕ) (r : Option (Bor X)) → IsItemAt xs i r → option_copied r ≡ slice_get xs i
 copied_item xs i None h = sym (slice_get_past xs i h.3)
 copied_item xs i (Some x) h = sym (slice_get_read xs (length xs) i x.now refl h.3.0 h.1)
+
+-- a bench that is ready has room for the labels that a draft asks
+pub asked_long : {L : Type 0} (b : Bench) (t : Lists L) (o : Bool) → ready (short b t) o ≡ Ok tt → 32 ≤ length t.asked
+asked_long b t o h = grind arith
 
 module _ {L : Type 0} (rows : List Row) where
   pub no_row : (rs : List ℕ) (ls : List L) (i : ℕ) → slice_get rs i ≡ None → slice_get (paired_edits rows rs ls) i ≡ None

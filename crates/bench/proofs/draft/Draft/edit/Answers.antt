@@ -1,7 +1,5 @@
-use Rattle.std.proofs.Common.{◌≡◌, Some, sym, ap, ◌∙◌, rules}
+use Rattle.std.proofs.Common.{◌≡◌, sym, ◌∙◌, rules}
 use Rattle.std.specs.List.{slice_get}
-use Rattle.course.specs.declared.course.Origin.{Origin}
-use Rattle.bench.specs.Edits.{origin_at}
 use Rattle.bench.proofs.Stored.{copied_item, no_row, no_label, an_edit}
 use Rattle.bench.proofs.draft.Draft.edit.Goals as goal
 
@@ -22,7 +20,6 @@ returns g c =
     let same : c.deref.result.now ≡ c.args.self.now.rows.items = search rules in
     let row : c.copied.result ≡ slice_get c.args.self.now.rows.items c.args.index = c.copied.ensures ∙ copied_item _ _ _ (rw same at c.get.ensures.lookup) in
     let asked : c.copied-2.result ≡ slice_get c.args.asked.now c.args.index = c.copied-2.ensures ∙ copied_item _ _ _ c.get-2.ensures.lookup in
-    let origin : c.map_or-origin.result ≡ origin_at c.args.rows.now.rows.items c.in_ok-row.row = search rules in
-    ap (λ (o : Origin). Some (record { row = c.in_ok-row.row; origin = o; asked = c.in_ok-asked.asked })) origin
-    ∙ sym (an_edit c.args.rows.now.rows.items c.args.self.now.rows.items c.args.asked.now c.args.index c.in_ok-row.row c.in_ok-asked.asked
-    (sym row ∙ c.in_ok-row.was) (sym asked ∙ c.in_ok-asked.was))
+    let there = an_edit c.args.rows.now.rows.items c.args.self.now.rows.items c.args.asked.now c.args.index c.in_ok-row.row c.in_ok-asked.asked
+    (sym row ∙ c.in_ok-row.was) (sym asked ∙ c.in_ok-asked.was) in
+    search rules
