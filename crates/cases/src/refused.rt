@@ -23,7 +23,9 @@ fn show_short(screen: &mut Screen, name: &str, tables: &Written) -> anyhow::Resu
     let cabinet = Cabinet::read(heap, &written("0,1,North", "Site"))?;
     let tables = Cabinet::read(heap, tables)?;
     let expression = admit_places(&cabinet)?;
-    let source = Source::new(cabinet.nodes, cabinet.arrows.as_slice()).context("a source is refused")?;
+    let source = Source::new(cabinet.nodes, cabinet.arrows.as_slice()).context(
+        "a source is refused",
+    )?;
     screen.show_labelled(
         &source,
         &expression,

@@ -28,7 +28,9 @@ pub struct Screen<'a> {
 pub fn admit_places(cabinet: &Cabinet) -> anyhow::Result<Expression> {
     let mut expression = Expression::new();
     let constants = cabinet.constants.len();
-    admit(cabinet.places.as_slice(), constants, &mut expression).context("an expression is not admitted")?;
+    admit(cabinet.places.as_slice(), constants, &mut expression).context(
+        "an expression is not admitted",
+    )?;
     Ok(expression)
 }
 

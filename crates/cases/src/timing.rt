@@ -27,7 +27,9 @@ fn show_often(screen: &mut Screen, cabinet: &Cabinet, source: &Source) -> anyhow
 
 // Tells the mean time of a view of a cabinet, with the sizes of its course.
 fn time_cabinet(screen: &mut Screen, name: &str, cabinet: &Cabinet) -> anyhow::Result<()> {
-    let source = Source::new(cabinet.nodes, cabinet.arrows.as_slice()).context("a source is refused")?;
+    let source = Source::new(cabinet.nodes, cabinet.arrows.as_slice()).context(
+        "a source is refused",
+    )?;
     let start = Instant::now(screen.rt)?;
     show_often(screen, cabinet, &source)?;
     let mean = start.elapsed(screen.rt)?.as_micros() / u128::from(TURNS);
