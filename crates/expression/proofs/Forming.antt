@@ -7,7 +7,7 @@ use Rattle.expression.specs.declared.form.Form.{Form}
 use Rattle.expression.specs.declared.form.Form.TheVariants.{Zero}
 use Rattle.expression.specs.declared.raw.RawPlace.{RawPlace}
 use Rattle.expression.specs.declared.refusal.Refusal.TheVariants.{IllFormed}
-use Rattle.expression.specs.Raw.{read, form_read, or_zero}
+use Rattle.expression.specs.Raw.{read, or_zero}
 use Rattle.expression.specs.Forms.{lower}
 use Rattle.expression.specs.Admission.{table_read, lower_form, read_at, well_formed, lowest, formed}
 use Rattle.expression.proofs.Lowest.{each_passes, each_told}

@@ -1,5 +1,5 @@
 -- The table of one node passes every check. Assumes nothing.
-use Rattle.std.proofs.Common.{◌≡◌, ℕ, zero, suc, ◌-◌, ◌<◌, ◌≤◌, true, List, [], ◌∷◌, length, get_or, replicate, None, sym, refl, subst, arith}
+use Rattle.std.proofs.Common.{◌≡◌, ℕ, zero, suc, ◌-◌, ◌<◌, true, List, [], ◌∷◌, length, get_or, replicate, None, sym, refl, ap, ◌∙◌, subst, arith}
 use Rattle.expression.specs.declared.form.Form.{Form}
 use Rattle.expression.specs.declared.form.Form.TheVariants.{Zero, Node}
 use Rattle.expression.specs.Forms.{lower, tree_at, tree_in, ins, outs}
@@ -15,6 +15,9 @@ single = Node ∷ []
 pub single_lower : (k : ℕ) → lower k (get_or single k Zero) ≡ true
 single_lower zero = refl
 single_lower (suc k) = refl
+
+pub lower_in_single : (ps : List Form) → ps ≡ single → (k : ℕ) → lower k (get_or ps k Zero) ≡ true
+lower_in_single ps is k = ap (λ (qs : List Form). lower k (get_or qs k Zero)) is ∙ single_lower k
 
 uses_right : lowest 1 (part_once single) ≡ None
 unfolding lowest uses

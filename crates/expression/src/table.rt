@@ -31,6 +31,7 @@ fn form_at(raw: &RawPlace, place: usize) -> Option<Form>
 
 impl Table {
     // A node at the first place.
+    #[tactic(auto, using(crate::proofs::Single::lower_in_single))]
     pub(crate) fn one_node() -> Table
         ensures { result.forms.items ≡ OneNode ∷ [] }
     {

@@ -3,7 +3,6 @@ use Rattle.std.proofs.lemmas.List.{map_more, length-map, length-take-le}
 use Rattle.std.proofs.Math.Seq.{take-length}
 use Rattle.expression.specs.declared.form.Form.{Form}
 use Rattle.expression.specs.declared.form.Form.TheVariants.{Zero}
-use Rattle.expression.specs.declared.raw.RawPlace.{RawPlace}
 use Rattle.expression.specs.declared.refusal.Refusal.TheVariants.{IllFormed}
 use Rattle.expression.specs.Raw.{form_read}
 use Rattle.expression.specs.Forms.{lower}
