@@ -1,5 +1,8 @@
 -- Texts of settings: their lengths, and back from a text to its setting. Assumes nothing.
-use Rattle.std.specs.Prelude.{◌≡◌, ℕ, ◌^◌, ◌<◌, ◌≤◌, Bool, true, false, cond, ◌↔◌, List, length, drop, Ok, Err, slice_index, refl}
+use Rattle.std.specs.Prelude.{◌≡◌, ℕ, ◌^◌, ◌<◌, ◌≤◌, Bool, true, false, cond, ◌↔◌, T, List, length, drop, Ok, Err, slice_index, refl, to_bits, Float}
+use Rattle.std.specs.Float.{binary32}
+use Rattle.std.specs.Float.Ieee.{fits}
+use Rattle.std.specs.Float.Ieee.Bits.{to_bits-lt}
 use Rattle.std.proofs.Common.{ap, subst, arith}
 use Rattle.std.proofs.lemmas.Bool.{both_ways, cond-true, eqb-true, eq-eqb}
 use Rattle.kinds.specs.declared.refusal.Refusal.TheVariants.{Setting as BadSetting}
@@ -7,7 +10,8 @@ use Rattle.kinds.specs.declared.setting.SettingLabel.{SettingLabel}
 use Rattle.kinds.specs.declared.setting.Setting.{Setting}
 use Rattle.kinds.specs.Digits.{spelled}
 use Rattle.kinds.specs.Filed.{Tied}
-use Rattle.kinds.specs.Settings.{Meant, seconds, metres, count, mark, meant, alike_meant, legal, making, text_of, setting_text}
+use Rattle.kinds.specs.declared.setting.Setting.TheVariants.{Seconds, Metres, Count, Mark}
+use Rattle.kinds.specs.Settings.{Meant, seconds, metres, count, mark, meant, meant_by, alike_meant, legal, making, text_of, setting_text, Holds, Made}
 use Rattle.kinds.specs.Spelled.{spelled_long, spelled_short, same_from_spelled}
 
 heads : (l k : List ℕ) → l ≡ k → slice_index l 0 ≡ slice_index k 0
@@ -71,6 +75,20 @@ pattern_long n h = spelled_long 16 8 n (omega arith) (omega arith) (omega arith)
 
 pub count_short : (n : ℕ) → n < 65536 → length (spelled 10 1 n) ≤ 5
 count_short n h = spelled_short 10 5 n (omega arith) (omega arith) (omega arith)
+
+-- the digits of a float that 32 bits hold
+pattern_fits : (x : Float) → T (fits binary32 x) → length (spelled 16 8 (to_bits binary32 x)) ≤ 8
+pattern_fits x h = omega (arith, pattern_long (to_bits binary32 x) (to_bits-lt binary32 x h))
+
+-- the text of a label that making gives
+pub made_short : (s : SettingLabel) → Made s → length (setting_text s) ≤ 10
+made_short s made = go s.setting made.0
+  where
+    go : (v : Setting) → Holds v → length (text_of (meant_by v)) ≤ 10
+    go (Seconds x) h = omega (arith, pattern_fits x h)
+    go (Metres x) h = omega (arith, pattern_fits x h)
+    go (Count n) h = omega (arith, count_short n h)
+    go Mark h = omega arith
 
 -- ---- labels that making gives
 

@@ -1,9 +1,9 @@
 -- Laws of digits: one digit more, how many there are, and back from digits to the number. Assumes nothing.
 use Rattle.std.specs.Prelude.{◌≡◌, ℕ, zero, suc, ◌+◌, ◌-◌, ◌*◌, ◌/◌, ◌%◌, ◌^◌, ◌<◌, ◌≤◌, max, ◌⊎◌, List, [], ◌∷◌, ◌++◌, map, length, take, drop, replicate, slice_index, refl}
 use Rattle.std.proofs.Common.{sym, ap, ap₂, ◌∙◌, append_assoc, inl, inr, zero-lt-suc, div-le_self, le-div_iff_mul-le, arith, length-append, take-append-drop}
-use Rattle.std.proofs.Math.Nat.{zero-div, zero-mod, sub-zero, div-eq_of_lt, div-lt_self}
+use Rattle.std.proofs.Math.Nat.{zero-div, zero-mod, sub-zero, div-eq_of_lt, div-lt_self, pow-le-pow_left, pow-le-pow_right}
 use Rattle.std.specs.Int.Digits.{digits_of, number_from_digits, number_from_digits_after, AllBelowBase}
-use Rattle.std.proofs.lemmas.Int.Digits.{digits_of_step, length-digits_of_step, length-digits_of-le, number_digits_of, number_after_append, number_after_ge, number_more, number_push, all_below_base_digits_of}
+use Rattle.std.proofs.lemmas.Int.Digits.{digits_of_step, length-digits_of_step, length-digits_of-le, number_digits_of, number_lt, number_after_append, number_after_ge, number_more, number_push, all_below_base_digits_of}
 use Rattle.std.proofs.ByRecursion.{All-append, All-get_or, All-push}
 use Rattle.std.proofs.lemmas.List.{replicate_more, append-nil, take_more, take-map, get_or-map, map-append, length-map, length-replicate}
 use Rattle.std.proofs.lemmas.Bool.Decides.{nat_tests}
@@ -91,6 +91,14 @@ pub spelled_short : (b w n : ℕ) → 2 ≤ b → 1 ≤ w → n < b ^ w → leng
 spelled_short b w n h some under =
     let few = length-digits_of-le b w n h under in
     simp (length-map, length-append, length-replicate) (omega arith)
+
+-- at most eight digits come to a number that 32 bits hold
+pub digits_fit : (b : ℕ) (ds : List ℕ) → b ≤ 16 → length ds ≤ 8 → AllBelowBase b ds → number_from_digits b ds < 2 ^ 32
+digits_fit b ds base few under =
+    let wide : b ^ length ds ≤ 16 ^ length ds = pow-le-pow_left base (length ds) in
+    let top : 16 ^ length ds ≤ 16 ^ 8 = pow-le-pow_right (omega arith) few in
+    let is : 16 ^ 8 ≡ 2 ^ 32 = refl in
+    omega (arith, number_lt b ds under)
 
 -- ---- back from digits
 

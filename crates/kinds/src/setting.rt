@@ -13,6 +13,9 @@ use crate::refusal::Refusal;
 use bounded::list::Bounded;
 use std::num::{f32_from_bits_with_nan, f32_to_bits_with_nan};
 
+// How many bytes the text of a label can have.
+const LONGEST: usize = 10;
+
 // A sort with its value.
 #[derive(Clone, Copy, Debug)]
 pub enum Setting {
@@ -147,9 +150,13 @@ impl FiledLabel for SettingLabel {
         Some(list.count())
     }
 
-    // A text is a label's exactly if it is the text of the label that it is likely to be of.
-    #[tactic(auto, using(crate::specs::SettingTexts::setting_tied))]
+    // A text is a label's exactly if it is the text of the label that it is likely to be of. A
+    // longer text than a label has is refused at one look, however long it is.
+    #[tactic(auto, using(crate::specs::SettingTexts::setting_tied, crate::specs::SettingTexts::made_short))]
     fn read_text(bytes: &[u8]) -> Result<SettingLabel, Refusal> {
+        if LONGEST < bytes.len() {
+            return Err(Refusal::Setting);
+        }
         let setting = likely(bytes).ok_or(Refusal::Setting)?;
         let label = SettingLabel::make(setting)?;
         if has_text(label, bytes) {
