@@ -1,14 +1,20 @@
-use Rattle.std.proofs.Common.{◌≡◌, ◌≢◌, Some, rules}
-use Rattle.std.proofs.lemmas.Iterator.{YieldsList-from_slice, IsFirst-from_position}
-use borrow.Author.Tests.{tests}
-use Rattle.kinds.proofs.Places.{lowest_of_first}
+use Rattle.std.proofs.Common.{Some, sym, ap, ◌∙◌, arith, below_more}
+use lib.ListN.{length-map}
+use Rattle.kinds.proofs.Places.{nth_map_read, some_back, not_both}
 use Rattle.listing.specs.Answers.{meaning_of}
 use Rattle.listing.proofs.answer.lowest_line.Goals as goal
 
+pub returns-then-is_label : goal.returns-then-is_label
+returns-then-is_label g c =
+    let m = meaning_of g.L.Label.meaning in
+    let here = nth_map_read m c.args.answers.now c.loop-i.i _ c.loop-i-test.true c.index-answers-i.is in
+    (here ∙ ap (λ y. Some y) (c.is_label.ensures.0 c.if-is_label.true), c.loop-i.invariant)
+
+pub loop-i-preserved : goal.loop-i-preserved
+loop-i-preserved g c =
+    let m = meaning_of g.L.Label.meaning in
+    let here = nth_map_read m c.args.answers.now c.loop-i.i _ c.loop-i-test.true c.index-answers-i.is in
+    below_more _ _ c.loop-i.invariant (λ e. not_both c.if-is_label.false (c.is_label.ensures.1 (some_back (sym here ∙ e))))
+
 pub returns : goal.returns
-returns g c =
-    let meaning = meaning_of g.L.Label.meaning in
-    let answers = c.args.answers.now in
-    let m = Some (g.L.Label.meaning c.args.label.now) in
-    lowest_of_first meaning m answers _
-    (IsFirst-from_position _ _ _ (λ a. meaning a ≡ m) (λ a. meaning a ≢ m) c.position.ensures.ran (YieldsList-from_slice answers cc) (λ x q k. search (rules, tests)) (λ x q k. search (rules, tests)))
+returns g c = λ k h. c.loop-i.invariant k (omega (arith, rw length-map at h))
