@@ -8,7 +8,8 @@ use crate::shown::{Showing, leads};
 use course::course::Arrow;
 use std::alloc::{AllocError, Global};
 use walks::step_table::StepTable;
-use walks::walk::walk;
+use walks::visits::Visits;
+use walks::walk::{walk, walk_again};
 
 // The rows that were listed last and the blank arrows, in memory that is taken once, for as many as
 // there can be.
@@ -86,10 +87,11 @@ impl Rows {
         requires nodes { nodes ≤ 1024 }
         ensures { Grown self.old.rows.items (flat_map (rows_at arrows.now) (filter (λ v. slice_index_or shown.now v false) (from 0 nodes))) self.new.rows.items result }
     {
+        let mut near = Visits::new();
         for (node, is_shown) in shown[..nodes].iter().enumerate() {
             if *is_shown {
-                let near = walk(&self.blanks, node);
-                self.list_node(arrows, &near, node)?;
+                walk_again(&self.blanks, node, &mut near);
+                self.list_node(arrows, near.marks(), node)?;
             }
         }
         Ok(())

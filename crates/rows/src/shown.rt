@@ -26,7 +26,8 @@ pub(crate) struct Showing<'a> {
 pub(crate) fn leads(arrow: Arrow, near: &[bool; 1024]) -> bool
     ensures { result ≡ leads_by near.now arrow }
 {
-    !arrow.origin.is_blank() && near.get(arrow.tail) == Some(&true)
+    // The tail first: of most arrows it is not near.
+    near.get(arrow.tail) == Some(&true) && !arrow.origin.is_blank()
 }
 
 impl Steps for Showing<'_> {

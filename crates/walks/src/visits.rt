@@ -31,6 +31,14 @@ impl Visits {
         }
     }
 
+    // Takes all marks away, and all nodes off the list.
+    pub fn clear(&mut self)
+        ensures { visiting self.new ≡ nothing }
+    {
+        self.marks = [false; 1024];
+        self.todo.clear();
+    }
+
     // Marks a node and lists it, unless it is marked. A number past the marks is passed over.
     pub fn visit(&mut self, node: usize)
         ensures { visiting self.new ≡ visit_one node (visiting self.old) }

@@ -1,9 +1,21 @@
 // A walk: what steps reach from a root.
-ghost use Rattle.std.specs.Prelude.{◌≡◌, ℕ, ◌<◌, ◌↔◌, true, false, slice_index_or};
+ghost use Rattle.std.specs.Prelude.{◌≡◌, ℕ, ◌<◌, ◌↔◌, true, false, [], slice_index_or};
 ghost use Rattle.walks.specs.Reach.{Reaches, lead};
+ghost use Rattle.walks.specs.Visits.{visiting, nothing};
 
 use crate::steps::Steps;
 use crate::visits::Visits;
+
+// Marks the root, and what steps lead to from it, where nothing is marked yet.
+fn spread<S: Steps>(steps: &S, root: usize, visits: &mut Visits)
+    requires { visiting visits.old ≡ nothing }
+    ensures { visiting visits.new ≡ record { marks = lead 1024 (S.steps steps.now) root; listed = [] } }
+{
+    visits.visit(root);
+    while let Some(node) = visits.take_next() {
+        steps.visit_heads(node, visits);
+    }
+}
 
 // For each node with a mark, whether it is the root or steps lead to it from the root.
 pub fn walk<S: Steps>(steps: &S, root: usize) -> [bool; 1024]
@@ -11,11 +23,19 @@ pub fn walk<S: Steps>(steps: &S, root: usize) -> [bool; 1024]
     ensures reached { (v : ℕ) → v < 1024 → (slice_index_or result v false ≡ true) ↔ Reaches (S.steps steps.now) root v }
 {
     let mut visits = Visits::new();
-    visits.visit(root);
-    while let Some(node) = visits.take_next() {
-        steps.visit_heads(node, &mut visits);
-    }
+    spread(steps, root, &mut visits);
     *visits.marks()
+}
+
+// Marks just the root and what steps lead to from it, whatever was marked, and leaves none to be
+// visited. Whoever walks often keeps
+// the visits, since making them writes their memory.
+pub fn walk_again<S: Steps>(steps: &S, root: usize, visits: &mut Visits)
+    ensures after { visiting visits.new ≡ record { marks = lead 1024 (S.steps steps.now) root; listed = [] } }
+    ensures reached { (v : ℕ) → v < 1024 → (slice_index_or visits.new.marks v false ≡ true) ↔ Reaches (S.steps steps.now) root v }
+{
+    visits.clear();
+    spread(steps, root, visits);
 }
 
 #[cfg(test)]

@@ -4,6 +4,7 @@ use Rattle.std.proofs.lemmas.Result.{err_from_is_err_and}
 use Rattle.walks.specs.declared.step_table.StepTable.{StepTable}
 use Rattle.walks.specs.Reach.{lead}
 use Rattle.walks.specs.Tables.{steps_of}
+use Rattle.walks.specs.Visits.{Visiting}
 use Rattle.rows.specs.Growing.{Grown}
 use Rattle.rows.specs.Heads.{rows_by}
 use Rattle.rows.specs.Rows.{rows_at}
@@ -18,7 +19,7 @@ returns-in_err-list_node c =
     let shown = c.args.shown.now in
     let i = c.loop-node.node in
     let n = c.args.nodes in
-    let near = c.walk-near.result in
+    let near = c.marks.result.now in
     let l : i < n = omega (arith, c.loop-node-test.true, length-take n shown) in
     let e = c.in_err-list_node.ensures.rows in
     let p = err_from_is_err_and c.from_residual.result c.from_residual.ensures.1 in
@@ -26,7 +27,7 @@ returns-in_err-list_node c =
       p.2 ∙ e.0,
       over_some (vec_items c.loop-node.self.rows) (rows_by near i arrows) (rows_at arrows i) (rows_from arrows shown (i + 1) (n - (i + 1))) (vec_items c.args.self.now.rows ++ rows_from arrows shown 0 n) (rows_from arrows shown i (n - i))
           (node_left arrows shown n i l (sym (get_or-take n shown i false l) ∙ c.if-is_shown.true))
-          (rows_marked arrows i near c.requires.fit (c.walk-near.ensures.marks ∙ ap (λ (t : StepTable). lead 1024 (steps_of t) i) c.loop-node.invariant.blanks ∙ ap (λ s. lead 1024 s i) c.requires.linked))
+          (rows_marked arrows i near c.requires.fit (c.marks.ensures ∙ ap (λ (s : Visiting). s.marks) c.walk_again.ensures.after ∙ ap (λ (t : StepTable). lead 1024 (steps_of t) i) c.loop-node.invariant.blanks ∙ ap (λ s. lead 1024 s i) c.requires.linked))
           c.loop-node.invariant.rows e.1,
     )
 
@@ -42,9 +43,9 @@ loop-node-preserved c =
       | then-is_shown+in_ok-list_node w ↦ record {
         rows =
             ap (λ s. vec_items s.rows ++ rest) w.self-is
-            ∙ some_more (vec_items c.loop-node.self.rows) (rows_by w.walk-near.result i arrows) (rows_at arrows i) rest (vec_items c.args.self.now.rows ++ rows_from arrows shown 0 n) (rows_from arrows shown i (n - i))
+            ∙ some_more (vec_items c.loop-node.self.rows) (rows_by w.marks.result.now i arrows) (rows_at arrows i) rest (vec_items c.args.self.now.rows ++ rows_from arrows shown 0 n) (rows_from arrows shown i (n - i))
             (node_left arrows shown n i l (sym (get_or-take n shown i false l) ∙ w.if-is_shown.true))
-            (rows_marked arrows i w.walk-near.result c.requires.fit (w.walk-near.ensures.marks ∙ ap (λ (t : StepTable). lead 1024 (steps_of t) i) c.loop-node.invariant.blanks ∙ ap (λ s. lead 1024 s i) c.requires.linked))
+            (rows_marked arrows i w.marks.result.now c.requires.fit (w.marks.ensures ∙ ap (λ (s : Visiting). s.marks) w.walk_again.ensures.after ∙ ap (λ (t : StepTable). lead 1024 (steps_of t) i) c.loop-node.invariant.blanks ∙ ap (λ s. lead 1024 s i) c.requires.linked))
             c.loop-node.invariant.rows (vec_items w.list_node.new.self.rows) w.in_ok-list_node.ensures.rows.0;
         blanks = ap (λ s. s.blanks) w.self-is ∙ w.list_node.ensures.blanks ∙ c.loop-node.invariant.blanks;
       }
