@@ -12,7 +12,7 @@ use Rattle.bench.specs.declared.bench.Bench.{Bench}
 use Rattle.bench.specs.declared.draft.Draft.{Draft}
 use Rattle.bench.specs.declared.history.History.{History}
 use Rattle.bench.specs.Edits.{edit_for, paired_edits}
-use Rattle.bench.specs.Reading.{Lists, draft_of, commits_of, history_of, short, ready}
+use Rattle.bench.specs.Reading.{Lists, ends_of, draft_of, commits_of, history_of, short, ready}
 use Rattle.bench.proofs.DraftEdits.{edits_length}
 
 -- what `get` lends of a list, copied
@@ -20,9 +20,19 @@ pub copied_item : {X : Type 0} (xs : List X) (i : ℕ) (r : Option (Bor X)) → 
 copied_item xs i None h = sym (slice_get_past xs i h.3)
 copied_item xs i (Some x) h = sym (slice_get_read xs (length xs) i x.now refl h.3.0 h.1)
 
+-- the tables of a call that is ready are long enough
+pub record Long {L : Type 0} (b : Bench) (t : Lists L) : Type 0 where
+  pub labels : length (ends_of b.source) ≤ length t.labels
+  pub constants : b.constants ≤ length t.constants
+  pub asked : 32 ≤ length t.asked
+  pub history : 512 ≤ length t.history
+
+pub long_enough : {L : Type 0} (b : Bench) (t : Lists L) (o : Bool) → ready (short b t) o ≡ Ok tt → Long b t
+long_enough b t o h = record { labels = grind arith; constants = grind arith; asked = grind arith; history = grind arith }
+
 -- a bench that is ready has room for the labels that a draft asks
 pub asked_long : {L : Type 0} (b : Bench) (t : Lists L) (o : Bool) → ready (short b t) o ≡ Ok tt → 32 ≤ length t.asked
-asked_long b t o h = grind arith
+asked_long b t o h = (long_enough b t o h).asked
 
 module _ {L : Type 0} (rows : List Row) where
   pub no_row : (rs : List ℕ) (ls : List L) (i : ℕ) → slice_get rs i ≡ None → slice_get (paired_edits rows rs ls) i ≡ None

@@ -1,5 +1,5 @@
 // Entries in the first places of a slice.
-ghost use Rattle.std.specs.Prelude.{◌≡◌, ◌+◌, ◌-◌, ◌<◌, ◌≤◌, length, take, insert, remove, MatchResult};
+ghost use Rattle.std.specs.Prelude.{◌≡◌, ◌+◌, ◌-◌, ◌<◌, ◌≤◌, length, take, drop, insert, remove, MatchResult};
 ghost use Rattle.std.specs.List.{slice_get};
 ghost use Rattle.bench.specs.Places.{Stands, Missing};
 
@@ -7,7 +7,7 @@ ghost use Rattle.bench.specs.Places.{Stands, Missing};
 pub(crate) fn entry_below<T: Copy>(entries: &[T], count: usize, index: usize) -> Option<T>
     ensures { result ≡ slice_get (take count entries.now) index }
 {
-    entries.iter().take(count).nth(index).copied()
+    entries[..count.min(entries.len())].get(index).copied()
 }
 
 // Puts an entry at a place among the first `count`, and moves those from there on one place up.
@@ -19,10 +19,12 @@ pub(crate) fn insert_at<T: Copy>(entries: &mut [T], count: usize, at: usize, ent
     entries[at] = entry;
 }
 
-// Takes the entry at a place out of the first `count`, and moves those after it one place down.
+// Takes the entry at a place out of the first `count`, and moves those after it one place down. From
+// the last of them on, the entries stay.
 pub(crate) fn remove_at<T: Copy>(entries: &mut [T], count: usize, at: usize)
     requires { (at < count) × (count ≤ length entries.old) }
-    ensures { take (count - 1) entries.new ≡ remove (take count entries.old) at }
+    ensures taken { take (count - 1) entries.new ≡ remove (take count entries.old) at }
+    ensures rest { drop (count - 1) entries.new ≡ drop (count - 1) entries.old }
 {
     entries.copy_within(at + 1..count, at);
 }

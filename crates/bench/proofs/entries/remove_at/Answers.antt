@@ -15,5 +15,5 @@ closed xs moved at n lt le is =
     ap (λ z. drop z (take n xs)) (sym (add-one at)) ∙ ap (λ z. drop (at + 1) (take z xs)) (sym whole) ∙ drop-take (at + 1) m xs in
     ap (λ z. take z moved) less ∙ front ∙ sym (ap (λ z. z ++ drop (suc at) (take n xs)) (take-take at n xs (omega arith)) ∙ ap (λ z. take at xs ++ z) rest)
 
-pub returns : goal.returns
-returns g c = closed c.args.entries.now c.copy_within.new.self c.args.at c.args.count c.requires.0 c.requires.1 c.copy_within.ensures.after
+pub returns-clause-taken : goal.returns-clause-taken
+returns-clause-taken g c = closed c.args.entries.now c.copy_within.new.self c.args.at c.args.count c.requires.0 c.requires.1 c.copy_within.ensures.after
